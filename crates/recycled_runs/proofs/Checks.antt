@@ -2,22 +2,22 @@
 use Rattle.std.proofs.Common.{◌≡◌, refl, sym, ap, ◌∙◌, subst, inl, inr, ℕ, zero, suc, ◌+◌, ◌<◌, arith, Bool, true, false, not, ◌==◌, List, [], ◌∷◌, map, drop, length, get_or, slice_get, Option, Some, None, ℤ, pos, if◌then◌else◌}
 use Rattle.std.specs.Prelude.{option_and_then, is_some}
 use Rattle.std.proofs.lemmas.Bool.{false≢true}
-use Rattle.spark_base.specs.Lists.{Has}
-use Rattle.type_definitions.specs.declared.table.Shape.{Shape}
-use Rattle.type_definitions.specs.declared.table.Shape.TheVariants as shape
-use Rattle.type_definitions.specs.Types.{Table, shape_of}
-use Rattle.flow_paths.specs.Instructions.{Instruction, Skip, Declare, Assign, Call, Output, Input, Release, Test, Choose, Start, Next, Evaluate, LeaveLoop, Hold, EndScope, Finish, Fall}
-use Rattle.flow_paths.specs.Objects.{Typing, object_at, sub_at, passings, is_package_object}
-use Rattle.flow_paths.specs.Points.{FlowPoint}
-use Rattle.flow_paths.specs.Laid.{FlowProgram, flow_typing}
+use Rattle.machine.specs.spark_base.Lists.{Has}
+use Rattle.machine.specs.type_definitions.declared.table.Shape.{Shape}
+use Rattle.machine.specs.type_definitions.declared.table.Shape.TheVariants as shape
+use Rattle.machine.specs.type_definitions.Types.{Table, shape_of}
+use Rattle.machine.specs.flow_paths.Instructions.{Instruction, Skip, Declare, Assign, Call, Output, Input, Release, Test, Choose, Start, Next, Evaluate, LeaveLoop, Hold, EndScope, Finish, Fall}
+use Rattle.machine.specs.flow_paths.Objects.{Typing, object_at, sub_at, passings, is_package_object}
+use Rattle.machine.specs.flow_paths.Points.{FlowPoint}
+use Rattle.machine.specs.flow_paths.Laid.{FlowProgram, flow_typing}
 use Rattle.soundness.specs.PartOffsets.Parts.{owns_one, IsSettled}
 use Rattle.soundness.proofs.PartOffsets.Leaves.{leaf_at}
 use Rattle.soundness.specs.OwnedWays.Ways.{Owned}
 use Rattle.soundness.specs.Seen.{is_view_formal}
 use Rattle.soundness.specs.Typed.{Kept}
 use Rattle.machine.specs.Owners.{waiting_in}
-use Rattle.typed_tree.specs.Trees.{Name}
-use Rattle.run_values.specs.declared.value.Kind.{Kind}
+use Rattle.machine.specs.typed_tree.Trees.{Name}
+use Rattle.kept_cells.specs.run_values.declared.value.Kind.{Kind}
 use Rattle.soundness.specs.Sound.{view_of}
 use Rattle.machine.specs.Words.{access_offsets}
 use Rattle.machine.specs.Typed.{Sort, sorts}

@@ -1,13 +1,13 @@
 -- Where frames begin after a step over numbers, and whose they are.
 use Rattle.std.proofs.Common.{◌≡◌, refl, sym, ap, ◌∙◌, subst, ℕ, zero, suc, ◌+◌, arith, Bool, true, false, not, ◌&&◌, nat_le, nat_lt, unsigned_abs, List, [], ◌∷◌, ◌++◌, length-append, take, drop, length, slice_get, Option, Some, None, ℤ, pos, if◌then◌else◌}
 use Rattle.std.specs.Prelude.{int_le}
-use Rattle.spark_base.specs.declared.position.Pos.{Pos}
-use Rattle.type_definitions.specs.Types.{Table}
-use Rattle.run_values.specs.declared.value.Kind.{Kind}
-use Rattle.run_values.specs.declared.value.Kind.TheVariants as sort
-use Rattle.run_values.specs.declared.items.Item.{Item}
-use Rattle.run_values.specs.declared.items.Item.TheVariants as item
-use Rattle.run_values.specs.Items.{next_item}
+use Rattle.machine.specs.spark_base.declared.position.Pos.{Pos}
+use Rattle.machine.specs.type_definitions.Types.{Table}
+use Rattle.kept_cells.specs.run_values.declared.value.Kind.{Kind}
+use Rattle.kept_cells.specs.run_values.declared.value.Kind.TheVariants as sort
+use Rattle.kept_cells.specs.run_values.declared.items.Item.{Item}
+use Rattle.kept_cells.specs.run_values.declared.items.Item.TheVariants as item
+use Rattle.kept_cells.specs.run_values.Items.{next_item}
 use Rattle.kept_cells.specs.Cells.{Cell}
 use Rattle.machine.specs.Evaluate.{ProgramError, StorageError, DataError, EndError, Twice}
 use Rattle.machine.specs.States.{Normal, Leak, stack_words}

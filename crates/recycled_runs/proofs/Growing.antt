@@ -2,11 +2,11 @@
 use Rattle.std.proofs.Common.{◌≡◌, refl, sym, ap, ◌∙◌, subst, ℕ, zero, suc, ◌+◌, ◌-◌, arith, Bool, true, false, not, ◌&&◌, nat_le, nat_lt, List, [], ◌∷◌, ◌++◌, append_assoc, append-nil, drop, length, ℤ, pos, negsuc, if◌then◌else◌}
 use Rattle.std.proofs.lemmas.Bool.Decides.{nat_tests}
 use Rattle.std.proofs.lemmas.Bool.{false≢true}
-use Rattle.type_definitions.specs.Types.{Table}
-use Rattle.run_values.specs.declared.value.Value.{Value}
-use Rattle.run_values.specs.declared.value.Value.TheVariants as value
-use Rattle.run_values.specs.declared.value.Kind.{Kind}
-use Rattle.run_values.specs.declared.value.Kind.TheVariants as sort
+use Rattle.machine.specs.type_definitions.Types.{Table}
+use Rattle.kept_cells.specs.run_values.declared.value.Value.{Value}
+use Rattle.kept_cells.specs.run_values.declared.value.Value.TheVariants as value
+use Rattle.kept_cells.specs.run_values.declared.value.Kind.{Kind}
+use Rattle.kept_cells.specs.run_values.declared.value.Kind.TheVariants as sort
 use Rattle.machine.specs.Words.{access_offsets}
 use Rattle.machine.specs.Evaluate.{StorageError, heap_words}
 use Rattle.kept_cells.specs.Cells.{Cell, allocated}

@@ -1,7 +1,7 @@
 -- A memory with null where something was moved: nothing of it is gone, and it keeps what the other one keeps.
 use Rattle.std.proofs.Common.{◌≡◌, refl, sym, ap, ◌∙◌, subst, inl, inr, ℕ, zero, suc, ◌≤◌, Bool, true, false, List, [], ◌∷◌, map, get_or, if◌then◌else◌}
-use Rattle.type_definitions.specs.Types.{shape_of, words}
-use Rattle.flow_paths.specs.Objects.{Typing, object_at}
+use Rattle.machine.specs.type_definitions.Types.{shape_of, words}
+use Rattle.machine.specs.flow_paths.Objects.{Typing, object_at}
 use Rattle.machine.specs.Words.{Word, Cell, default}
 use Rattle.machine.specs.Memory.{Slot, Memory, Base, OfVariable, OfCell, fresh, cell, slots_at, no_slot}
 use Rattle.machine.specs.States.{Waiting}

@@ -1,9 +1,9 @@
 -- What leak checks tell of is there also after values were moved and made, where it was there before.
 use Rattle.std.proofs.Common.{◌≡◌, refl, sym, ap, ◌∙◌, subst, ℕ, zero, suc, ◌≤◌, Bool, true, false, List, [], ◌∷◌, drop, length, get_or, slice_get, Some, ℤ, pos, negsuc, if◌then◌else◌}
-use Rattle.type_definitions.specs.Types.{Table}
-use Rattle.run_values.specs.declared.value.Value.{Value}
-use Rattle.run_values.specs.declared.value.Kind.{Kind}
-use Rattle.run_values.specs.declared.value.Kind.TheVariants as sort
+use Rattle.machine.specs.type_definitions.Types.{Table}
+use Rattle.kept_cells.specs.run_values.declared.value.Value.{Value}
+use Rattle.kept_cells.specs.run_values.declared.value.Kind.{Kind}
+use Rattle.kept_cells.specs.run_values.declared.value.Kind.TheVariants as sort
 use Rattle.kept_cells.specs.Cells.{Cell}
 use Rattle.run_codes.specs.Codes.{Place}
 use Rattle.run_codes.specs.Flat.{Flat, Got, Given, Stops, Broken, touched, as_fresh, all_fresh, have_kinds, are_in, front_of_cell, most_offsets, words_in, Spot, InStack, InCell, spot, words_at}

@@ -3,10 +3,10 @@ use Rattle.std.proofs.Common.{◌≡◌, refl, sym, ap, ◌∙◌, subst, inl, i
 use Rattle.std.proofs.lemmas.List.{length-map}
 use Rattle.std.proofs.lemmas.Bool.{false≢true}
 use Rattle.std.specs.Prelude.{is_some}
-use Rattle.spark_base.specs.Lists.{Has}
-use Rattle.type_definitions.specs.Types.{Table}
-use Rattle.flow_paths.specs.Objects.{Typing}
-use Rattle.flow_paths.specs.Laid.{FlowProgram, flow_typing}
+use Rattle.machine.specs.spark_base.Lists.{Has}
+use Rattle.machine.specs.type_definitions.Types.{Table}
+use Rattle.machine.specs.flow_paths.Objects.{Typing}
+use Rattle.machine.specs.flow_paths.Laid.{FlowProgram, flow_typing}
 use Rattle.soundness.specs.PartOffsets.Parts.{IsSettled}
 use Rattle.soundness.proofs.PartOffsets.Leaves.{leaf_from}
 use Rattle.soundness.specs.OwnedWays.Ways.{Held, Loc, Step, OfRoot, Owned}

@@ -1,14 +1,14 @@
 -- The subprograms of the machine's frames after a step.
 use Rattle.std.proofs.Common.{◌≡◌, refl, sym, ap, subst, inl, inr, ◌⊎◌, ℕ, suc, Bool, true, false, not, ◌&&◌, List, [], ◌∷◌, ◌++◌, map, drop, length, get_or, nat_le, nat_lt, Option, Some, None, ℤ, if◌then◌else◌}
 use Rattle.std.specs.Prelude.{int_le}
-use Rattle.typed_tree.specs.Trees.{TypedTree, More}
-use Rattle.flow_paths.specs.Instructions.{Instruction, Skip, Declare, Assign, Call, Output, Input, Release, Test, Choose, Start, Next, Evaluate, LeaveLoop, Hold, EndScope, Finish, Fall}
-use Rattle.flow_paths.specs.Objects.{object_at, designated}
-use Rattle.flow_paths.specs.Names.{written, first}
-use Rattle.flow_paths.specs.Laid.{FlowProgram}
-use Rattle.run_values.specs.declared.items.Item.{Item}
-use Rattle.run_values.specs.declared.items.Item.TheVariants as item
-use Rattle.run_values.specs.Items.{next_item}
+use Rattle.machine.specs.typed_tree.Trees.{TypedTree, More}
+use Rattle.machine.specs.flow_paths.Instructions.{Instruction, Skip, Declare, Assign, Call, Output, Input, Release, Test, Choose, Start, Next, Evaluate, LeaveLoop, Hold, EndScope, Finish, Fall}
+use Rattle.machine.specs.flow_paths.Objects.{object_at, designated}
+use Rattle.machine.specs.flow_paths.Names.{written, first}
+use Rattle.machine.specs.flow_paths.Laid.{FlowProgram}
+use Rattle.kept_cells.specs.run_values.declared.items.Item.{Item}
+use Rattle.kept_cells.specs.run_values.declared.items.Item.TheVariants as item
+use Rattle.kept_cells.specs.run_values.Items.{next_item}
 use Rattle.machine.specs.Words.{Word, Int, Null, Cell, fits_type}
 use Rattle.machine.specs.Memory.{Memory, Place, cell, words_of, stored, declared, undeclared, without_frame, freed}
 use Rattle.machine.specs.Evaluate.{ConstraintError, StorageError, DataError, EndError, Twice, Evaluated, Done, Raises, Traps, value, place_of, text_of, cell_place, variable_place, is_true, decides}

@@ -2,8 +2,8 @@
 use Rattle.std.proofs.Common.{◌≡◌, refl, sym, ap, ◌∙◌, subst, ℕ, zero, suc, ◌+◌, Bool, true, false, not, ◌&&◌, nat_le, nat_lt, List, [], ◌∷◌, ◌++◌, drop, length, slice_get, Some, None, ℤ, if◌then◌else◌}
 use Rattle.std.specs.Prelude.{unsigned_abs, is_some}
 use Rattle.std.proofs.lemmas.Bool.{false≢true}
-use Rattle.run_values.specs.declared.value.Kind.{Kind}
-use Rattle.run_values.specs.Items.{at_end}
+use Rattle.kept_cells.specs.run_values.declared.value.Kind.{Kind}
+use Rattle.kept_cells.specs.run_values.Items.{at_end}
 use Rattle.kept_cells.specs.Cells.{Cell}
 use Rattle.run_codes.specs.Codes.{Code, Number, Local, Global, Via, Scaled, Plus, Unary, Binary, Short, IsNull, Waiting, EndOfFile, Nothing, Place, InFrame, InPackages, Behind}
 use Rattle.run_codes.specs.Flat.{Flat, Got, Given, Stops, Broken, and_then, found, truth, is_zero, operated, operated_alone, decides, offset, scaled, most_cells, most_offsets, touched, value_word, behind, behind_at, front, front_of_cell, word, indexes, Spot, InStack, InCell, spot, stack_spot, cell_spot, words_at}

@@ -1,9 +1,9 @@
 -- What stands at a part of what owns names cells that are there.
 use Rattle.std.proofs.Common.{◌≡◌, refl, sym, ap, ◌∙◌, subst, inl, inr, ℕ, ◌+◌, arith, true, List, [], ◌∷◌, ◌++◌, get_or, ℤ, pos}
-use Rattle.spark_base.specs.Lists.{Has}
-use Rattle.type_definitions.specs.Types.{Table}
-use Rattle.flow_paths.specs.Objects.{Typing}
-use Rattle.flow_paths.specs.Laid.{FlowProgram, flow_typing}
+use Rattle.machine.specs.spark_base.Lists.{Has}
+use Rattle.machine.specs.type_definitions.Types.{Table}
+use Rattle.machine.specs.flow_paths.Objects.{Typing}
+use Rattle.machine.specs.flow_paths.Laid.{FlowProgram, flow_typing}
 use Rattle.soundness.specs.PartOffsets.Parts.{type_in, offset_in, is_leaf, IsSettled}
 use Rattle.soundness.proofs.PartOffsets.Leaves.{leaf_from, leaf_at}
 use Rattle.soundness.specs.OwnedWays.Ways.{Loc, Owned}

@@ -1,15 +1,15 @@
 -- A point that is lowered from neither a call nor its end is neither.
 use Rattle.std.proofs.Common.{◌≡◌, subst, ℕ, zero, true, false, Option, Some, None, pos, if◌then◌else◌}
 use Rattle.std.specs.Prelude.{option_and_then}
-use Rattle.spark_base.specs.declared.position.Pos.{Pos}
-use Rattle.typed_tree.specs.Trees.{TypedTree}
-use Rattle.flow_paths.specs.Instructions.{Instruction, Skip, Declare, LeaveLoop}
-use Rattle.flow_paths.specs.Instructions as instruction
-use Rattle.flow_paths.specs.Points.{FlowPoint}
-use Rattle.type_definitions.specs.declared.table.Shape.{Shape}
-use Rattle.type_definitions.specs.declared.table.Shape.TheVariants as shape
-use Rattle.type_definitions.specs.Types.{shape_of, is_owning}
-use Rattle.flow_paths.specs.Names.{waiting}
+use Rattle.machine.specs.spark_base.declared.position.Pos.{Pos}
+use Rattle.machine.specs.typed_tree.Trees.{TypedTree}
+use Rattle.machine.specs.flow_paths.Instructions.{Instruction, Skip, Declare, LeaveLoop}
+use Rattle.machine.specs.flow_paths.Instructions as instruction
+use Rattle.machine.specs.flow_paths.Points.{FlowPoint}
+use Rattle.machine.specs.type_definitions.declared.table.Shape.{Shape}
+use Rattle.machine.specs.type_definitions.declared.table.Shape.TheVariants as shape
+use Rattle.machine.specs.type_definitions.Types.{shape_of, is_owning}
+use Rattle.machine.specs.flow_paths.Names.{waiting}
 use Rattle.run_codes.specs.Codes.{Number, Place, InFrame, InPackages, Behind, Fill, Checked, Pointer as LookedAt, Does, Go, Put, Store, Assign, Call, Output, Input, Release, Test, Choose, Start, Next, EvaluateLeft, EvaluateRight, Hold, EndPointer, EndScope, Finish, Fall}
 use Rattle.run_codes.specs.Lowered.{Placed, place, value}
 use Rattle.recycled_runs.proofs.Quiet.{IsQuiet, quiet}

@@ -1,16 +1,16 @@
 -- Most instructions are lowered to points without leak checks, which are neither calls nor their ends.
 use Rattle.std.proofs.Common.{◌≡◌, subst, ℕ, zero, ◌+◌, Bool, List, [], ◌∷◌, Option, Some, None, ℤ, pos}
 use Rattle.std.specs.Prelude.{option_and_then}
-use Rattle.typed_tree.specs.Trees.{TypedTree, NoMore, More}
-use Rattle.flow_paths.specs.Instructions.{Instruction, Skip, Declare, LeaveLoop}
-use Rattle.flow_paths.specs.Instructions as instruction
-use Rattle.flow_paths.specs.Points.{FlowPoint}
-use Rattle.type_definitions.specs.declared.table.Shape.{Shape}
-use Rattle.type_definitions.specs.declared.table.Shape.TheVariants as shape
-use Rattle.type_definitions.specs.Types.{shape_of}
+use Rattle.machine.specs.typed_tree.Trees.{TypedTree, NoMore, More}
+use Rattle.machine.specs.flow_paths.Instructions.{Instruction, Skip, Declare, LeaveLoop}
+use Rattle.machine.specs.flow_paths.Instructions as instruction
+use Rattle.machine.specs.flow_paths.Points.{FlowPoint}
+use Rattle.machine.specs.type_definitions.declared.table.Shape.{Shape}
+use Rattle.machine.specs.type_definitions.declared.table.Shape.TheVariants as shape
+use Rattle.machine.specs.type_definitions.Types.{shape_of}
 use Rattle.machine.specs.Evaluate.{AsValue}
-use Rattle.flow_paths.specs.Names.{waiting}
-use Rattle.typed_tree.specs.declared.node.ShortCircuit.{ShortCircuit}
+use Rattle.machine.specs.flow_paths.Names.{waiting}
+use Rattle.machine.specs.typed_tree.declared.node.ShortCircuit.{ShortCircuit}
 use Rattle.run_codes.specs.Codes.{Code, Number, Place, InFrame, InPackages, Behind, Fill, Checked, Pointer as LookedAt, Default, Does, Go, Assign, Call, Output, Input, Release, Test, Choose, Start, Next, EvaluateLeft, EvaluateRight, Hold, EndPointer, EndScope, Finish}
 use Rattle.run_codes.specs.Lowered.{Placed, Scalar, scalar_of, option_map, no_index, lowered, place, value}
 use Rattle.run_codes.specs.Flat.{default_words}

@@ -1,10 +1,10 @@
 -- The greatest counts of the machine are those over slots.
 use Rattle.std.proofs.Common.{◌≡◌, refl, sym, ap, ◌∙◌, subst, ℕ, suc, ◌+◌, ◌≤◌, ◌<◌, ◌==◌, arith, Bool, true, false, not, ◌&&◌, List, [], ◌∷◌, map, drop, length, get_or, slice_get, Option, Some, None, if◌then◌else◌}
 use Rattle.std.proofs.lemmas.Bool.Decides.{nat_tests}
-use Rattle.type_definitions.specs.Types.{Table}
-use Rattle.run_values.specs.declared.value.Kind.{Kind}
-use Rattle.flow_paths.specs.Points.{FlowPoint}
-use Rattle.flow_paths.specs.Laid.{FlowProgram, flow_typing}
+use Rattle.machine.specs.type_definitions.Types.{Table}
+use Rattle.kept_cells.specs.run_values.declared.value.Kind.{Kind}
+use Rattle.machine.specs.flow_paths.Points.{FlowPoint}
+use Rattle.machine.specs.flow_paths.Laid.{FlowProgram, flow_typing}
 use Rattle.machine.specs.Memory.{Memory, HeapCell, no_cell, cell_words}
 use Rattle.machine.specs.States.{sub_of}
 use Rattle.machine.specs.States as machine
@@ -12,7 +12,7 @@ use Rattle.machine.specs.Step as machine_step
 use Rattle.machine.specs.Run.{no_point, step}
 use Rattle.machine.specs.Run as machine_run
 use Rattle.kept_cells.specs.Cells.{Cell}
-use Rattle.slot_heap.specs.Heaps.{live_count, slot_count}
+use Rattle.numbered_cells.specs.slot_heap.Heaps.{live_count, slot_count}
 use Rattle.numbered_cells.specs.Peaks.{peak_of}
 use Rattle.numbered_cells.specs.Follows.{there_count}
 use Rattle.run_codes.specs.Codes.{Does, Point}

@@ -1,8 +1,8 @@
 -- The law: a run over a heap that uses its slots again gives what the machine's run gives.
 use Rattle.std.proofs.Common.{◌≡◌, refl, sym, ap, ◌∙◌, subst, inl, inr, ◌⊎◌, ℕ, zero, suc, ◌≤◌, Bool, true, false, nat_le, List, [], ◌∷◌, ◌++◌, drop, length, slice_get, Some, if◌then◌else◌}
-use Rattle.type_definitions.specs.Types.{Table}
-use Rattle.run_values.specs.declared.value.Kind.{Kind}
-use Rattle.flow_paths.specs.Laid.{FlowProgram, flow_typing}
+use Rattle.machine.specs.type_definitions.Types.{Table}
+use Rattle.kept_cells.specs.run_values.declared.value.Kind.{Kind}
+use Rattle.machine.specs.flow_paths.Laid.{FlowProgram, flow_typing}
 use Rattle.machine.specs.Memory.{Memory}
 use Rattle.machine.specs.Evaluate.{StorageError}
 use Rattle.machine.specs.States.{Ending, Normal, Raised, Spent, Trapped, sub_of, frame_words, stack_words, frame_at_start}
@@ -39,7 +39,7 @@ use Rattle.handled_steps.specs.Looks.{LooksStep, turn_of, taken_kinds, step_kind
 use Rattle.handled_steps.specs.Rises.{AreUnder, RisesTo}
 use Rattle.handled_steps.proofs.Rises.{step_rises}
 use Rattle.numbered_cells.specs.Peaks.{peak_of}
-use Rattle.slot_heap.specs.Heaps.{live_count}
+use Rattle.numbered_cells.specs.slot_heap.Heaps.{live_count}
 use Rattle.kept_cells.specs.Cells.{Cell}
 use Rattle.std.proofs.lemmas.List.{length-map}
 use Rattle.handled_steps.specs.Runs.{NeverTraps, RunsWithin, RunOf, given, ran_with, state_at_start, first_kinds}

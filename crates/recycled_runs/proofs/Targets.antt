@@ -3,20 +3,20 @@ use Rattle.std.proofs.Common.{◌≡◌, refl, sym, ap, ◌∙◌, subst, inl, i
 use Rattle.std.specs.Prelude.{option_and_then}
 use Rattle.std.proofs.lemmas.List.{length-map}
 use Rattle.std.proofs.lemmas.Bool.{true≢false}
-use Rattle.spark_base.specs.Lists.{Has}
-use Rattle.spark_base.specs.declared.position.Pos.{Pos}
-use Rattle.place_names.specs.declared.act.Mode.TheVariants as mode
-use Rattle.type_definitions.specs.declared.table.Shape.{Shape}
-use Rattle.type_definitions.specs.declared.table.Shape.TheVariants as shape
-use Rattle.type_definitions.specs.Types.{Table, shape_of, full, is_scalar, is_owning}
-use Rattle.run_values.specs.declared.value.Kind.{Kind}
-use Rattle.run_values.specs.declared.value.Kind.TheVariants as sort
-use Rattle.typed_tree.specs.Trees.{TypedTree, Name, NoMore, More}
-use Rattle.flow_paths.specs.Names.{waiting}
-use Rattle.flow_paths.specs.Objects.{Typing, Passing, ByValue, Traversed, object_at, sub_at, passings}
-use Rattle.flow_paths.specs.Objects as objects
-use Rattle.flow_paths.specs.Points.{FlowPoint}
-use Rattle.flow_paths.specs.Laid.{FlowProgram, flow_typing}
+use Rattle.machine.specs.spark_base.Lists.{Has}
+use Rattle.machine.specs.spark_base.declared.position.Pos.{Pos}
+use Rattle.machine.specs.place_names.declared.act.Mode.TheVariants as mode
+use Rattle.machine.specs.type_definitions.declared.table.Shape.{Shape}
+use Rattle.machine.specs.type_definitions.declared.table.Shape.TheVariants as shape
+use Rattle.machine.specs.type_definitions.Types.{Table, shape_of, full, is_scalar, is_owning}
+use Rattle.kept_cells.specs.run_values.declared.value.Kind.{Kind}
+use Rattle.kept_cells.specs.run_values.declared.value.Kind.TheVariants as sort
+use Rattle.machine.specs.typed_tree.Trees.{TypedTree, Name, NoMore, More}
+use Rattle.machine.specs.flow_paths.Names.{waiting}
+use Rattle.machine.specs.flow_paths.Objects.{Typing, Passing, ByValue, Traversed, object_at, sub_at, passings}
+use Rattle.machine.specs.flow_paths.Objects as objects
+use Rattle.machine.specs.flow_paths.Points.{FlowPoint}
+use Rattle.machine.specs.flow_paths.Laid.{FlowProgram, flow_typing}
 use Rattle.soundness.specs.PartOffsets.Parts.{IsSettled}
 use Rattle.soundness.proofs.PartOffsets.Leaves.{leaf_from}
 use Rattle.soundness.specs.OwnedWays.Ways.{Owned}

@@ -3,14 +3,14 @@ use Rattle.std.proofs.Common.{◌≡◌, refl, sym, ap, ◌∙◌, subst, ℕ, z
 use Rattle.std.specs.Prelude.{int_le}
 use Rattle.std.proofs.Math.Seq.{drop-length}
 use Rattle.std.proofs.lemmas.List.{length-map}
-use Rattle.type_definitions.specs.Types.{Table, full}
-use Rattle.typed_tree.specs.Trees.{TypedTree, Text, Image, Parens, Binary, More}
-use Rattle.flow_paths.specs.Instructions.{Instruction, Skip, Declare, Assign, Call, Output, Input, Release, Test, Choose, Start, Next, Evaluate, LeaveLoop, Hold, EndScope, Finish, Fall}
-use Rattle.flow_paths.specs.Objects.{object_at, sub_at, designated, passings, is_anonymous}
-use Rattle.flow_paths.specs.Names.{written, first}
-use Rattle.run_values.specs.declared.items.Item.{Item}
-use Rattle.run_values.specs.declared.items.Item.TheVariants as item
-use Rattle.run_values.specs.Items.{next_item}
+use Rattle.machine.specs.type_definitions.Types.{Table, full}
+use Rattle.machine.specs.typed_tree.Trees.{TypedTree, Text, Image, Parens, Binary, More}
+use Rattle.machine.specs.flow_paths.Instructions.{Instruction, Skip, Declare, Assign, Call, Output, Input, Release, Test, Choose, Start, Next, Evaluate, LeaveLoop, Hold, EndScope, Finish, Fall}
+use Rattle.machine.specs.flow_paths.Objects.{object_at, sub_at, designated, passings, is_anonymous}
+use Rattle.machine.specs.flow_paths.Names.{written, first}
+use Rattle.kept_cells.specs.run_values.declared.items.Item.{Item}
+use Rattle.kept_cells.specs.run_values.declared.items.Item.TheVariants as item
+use Rattle.kept_cells.specs.run_values.Items.{next_item}
 use Rattle.machine.specs.Words.{Word, Int, Null, Cell, fits_type}
 use Rattle.machine.specs.Typed.{sorts}
 use Rattle.machine.specs.Memory.{Memory, HeapCell, Place, Base, OfVariable, OfCell, cell, cell_words, words_of, stored, moved_out, declared, undeclared, without_frame, freed, at_number, as_freed, slots_at, fresh, given_up}
@@ -21,7 +21,7 @@ use Rattle.machine.specs.States.{Waiting, Loop, Frame, Leak, Return, State, Outc
 use Rattle.machine.specs.States as machine
 use Rattle.machine.specs.Step.{Turn, typing, here, start, waiting, raised, trapped, counted, evaluated, behind, goes, Stored, first_value, taken_by, type_named, leaking_goes, target_pos, copied_back, bounds, Bounds, number, choice, chosen, truth_waiting, with_loop, loop_of, turned_to, next_value, test, turn}
 use Rattle.numbered_cells.specs.Peaks.{peak_of}
-use Rattle.slot_heap.specs.Heaps.{slot_count}
+use Rattle.numbered_cells.specs.slot_heap.Heaps.{slot_count}
 use Rattle.run_points.proofs.Flags.{Anywhere}
 use Rattle.run_points.proofs.Keeping.{Keeps, KeepsPlace, keeps_on, place_on, evaluate_keeps, checked_keeps, place_keeps, initial_keeps}
 use Rattle.run_points.proofs.Actuals.{all_keep}

@@ -4,13 +4,13 @@ use Rattle.std.proofs.lemmas.List.{length-map}
 use Rattle.std.proofs.lemmas.Bool.{cases_eq}
 use Rattle.std.proofs.lemmas.Bool.Decides.{nat_tests}
 use Rattle.std.proofs.Math.Seq.{drop-append_seam}
-use Rattle.type_definitions.specs.Types.{Table, words}
-use Rattle.flow_paths.specs.Objects.{Typing}
+use Rattle.machine.specs.type_definitions.Types.{Table, words}
+use Rattle.machine.specs.flow_paths.Objects.{Typing}
 use Rattle.machine.specs.Words.{Word, access_offsets}
 use Rattle.machine.specs.Typed.{sorts}
 use Rattle.machine.specs.Memory.{Memory, Slot, HeapCell, Base, Place, OfVariable, OfCell, no_cell, cell_words, live_cells, live_count, at_number, as_gone, fresh, gone_at, slots_at, slots_of, put, stored, moved_out, with_new_cell, as_freed, given_up}
 use Rattle.machine.specs.Evaluate.{Here}
-use Rattle.slot_heap.specs.Heaps.{slot_count}
+use Rattle.numbered_cells.specs.slot_heap.Heaps.{slot_count}
 use Rattle.numbered_cells.specs.Peaks.{peak_of}
 use Rattle.numbered_cells.proofs.Peaks.{greatest_same, greatest_other}
 use Rattle.run_codes.specs.Flat.{Flat}

@@ -1,13 +1,13 @@
 -- Where a name of a typed program leads: to a part of its variable, or of a cell that isn't freed.
 use Rattle.std.proofs.Common.{◌≡◌, refl, sym, ap, ◌∙◌, subst, inl, inr, ◌⊎◌, ℕ, zero, suc, ◌+◌, ◌*◌, ◌<◌, arith, lt-ltb, Bool, true, false, ◌&&◌, List, [], ◌∷◌, map, sum, take, drop, length, get_or, ℤ, if◌then◌else◌}
 use Rattle.std.specs.Prelude.{int_le, unsigned_abs, ◌-ℤ◌}
-use Rattle.type_definitions.specs.declared.table.Component.{Component as Part}
-use Rattle.type_definitions.specs.declared.table.Shape.{Shape}
-use Rattle.type_definitions.specs.declared.table.Shape.TheVariants as shape
-use Rattle.type_definitions.specs.Types.{Table, shape_of, components_of, fields, words, span, view_of, is_scalar}
-use Rattle.spark_base.specs.declared.position.Pos.{Pos}
-use Rattle.typed_tree.specs.Trees.{TypedTree, Name, Component as IntoComponent, Designated, Element, NoMore}
-use Rattle.flow_paths.specs.Objects.{Typing, object_at, is_package_object, designated, designated_of}
+use Rattle.machine.specs.type_definitions.declared.table.Component.{Component as Part}
+use Rattle.machine.specs.type_definitions.declared.table.Shape.{Shape}
+use Rattle.machine.specs.type_definitions.declared.table.Shape.TheVariants as shape
+use Rattle.machine.specs.type_definitions.Types.{Table, shape_of, components_of, fields, words, span, view_of, is_scalar}
+use Rattle.machine.specs.spark_base.declared.position.Pos.{Pos}
+use Rattle.machine.specs.typed_tree.Trees.{TypedTree, Name, Component as IntoComponent, Designated, Element, NoMore}
+use Rattle.machine.specs.flow_paths.Objects.{Typing, object_at, is_package_object, designated, designated_of}
 use Rattle.machine.specs.Words.{no_component, component_type, words_before, element_of, count_of, element_type, element_count}
 use Rattle.machine.specs.Words as machine
 use Rattle.machine.specs.Memory.{Slot, Memory, Base, OfVariable, OfCell, Place, cell, no_slot, slots_at, words_of}

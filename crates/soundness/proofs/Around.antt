@@ -2,9 +2,9 @@
 -- object, and then facts say so; so their facts on package objects stand beside its own.
 use Rattle.std.proofs.Common.{◌≡◌, sym, ap, ◌∙◌, ◌⊎◌, inl, inr, ℕ, ◌<◌, true, false, ◌==◌, eqb-true, eq-eqb, arith, if◌then◌else◌}
 use Rattle.std.proofs.lemmas.Bool.{true≢false}
-use Rattle.flow_paths.specs.declared.report.Effects.{Effects}
-use Rattle.flow_paths.specs.Objects.{Typing, is_package_object}
-use Rattle.flow_paths.specs.Laid.{FlowProgram, flow_typing}
+use Rattle.machine.specs.flow_paths.declared.report.Effects.{Effects}
+use Rattle.machine.specs.flow_paths.Objects.{Typing, is_package_object}
+use Rattle.machine.specs.flow_paths.Laid.{FlowProgram, flow_typing}
 use Rattle.soundness.specs.OwnedWays.Ways.{OfVariable, OfHand, Way, Object, Lost, Into, All, Named, number_of}
 use Rattle.soundness.specs.Seen.{home, IsNear}
 use Rattle.soundness.proofs.Contents.{bool_cases}

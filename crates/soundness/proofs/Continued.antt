@@ -1,9 +1,9 @@
 -- What inputs, releases and starts of loops do, from what they do once the values that they take are
 -- out of the frame.
 use Rattle.std.proofs.Common.{◌≡◌, refl, sym, subst, inl, inr, ℕ, true, false, not, ◌&&◌, List, [], ◌∷◌, length, ℤ, int_le, if◌then◌else◌}
-use Rattle.spark_base.specs.declared.position.Pos.{Pos}
-use Rattle.typed_tree.specs.Trees.{TypedTree, Name}
-use Rattle.flow_paths.specs.Objects.{object_at, designated}
+use Rattle.machine.specs.spark_base.declared.position.Pos.{Pos}
+use Rattle.machine.specs.typed_tree.Trees.{TypedTree, Name}
+use Rattle.machine.specs.flow_paths.Objects.{object_at, designated}
 use Rattle.run_values.specs.declared.items.Item.{Item}
 use Rattle.run_values.specs.declared.items.Item.TheVariants as item
 use Rattle.run_values.specs.Items.{next_item}

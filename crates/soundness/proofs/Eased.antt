@@ -4,8 +4,8 @@ use Rattle.std.proofs.Common.{◌≡◌, refl, ap, ◌∙◌, ℕ, suc, List, []
 use Rattle.std.specs.List.{AllByRecursion}
 use Rattle.std.proofs.lemmas.List.{length-reverse}
 use mathlib.Core.List.{reverse_aux}
-use Rattle.flow_paths.specs.Instructions.{Skip}
-use Rattle.flow_paths.specs.Objects.{Typing}
+use Rattle.machine.specs.flow_paths.Instructions.{Skip}
+use Rattle.machine.specs.flow_paths.Objects.{Typing}
 use Rattle.machine.specs.Words as machine
 use Rattle.machine.specs.Memory.{Memory}
 use Rattle.machine.specs.Evaluate.{Exception, Trap, Evaluated, Done, Raises, Traps}

@@ -2,7 +2,7 @@
 -- main procedure.
 use Rattle.std.proofs.Common.{◌≡◌, refl, sym, ap, ◌∙◌, subst, ◌⊎◌, inl, inr, ℕ, ◌<◌, Bool, true, false, not, ◌&&◌, ◌==◌, List, [], ◌∷◌, cond, eqb-true, if◌then◌else◌}
 use Rattle.std.specs.Prelude.{filter}
-use Rattle.flow_paths.specs.Objects.{Typing, object_at}
+use Rattle.machine.specs.flow_paths.Objects.{Typing, object_at}
 use Rattle.machine.specs.Words.{default}
 use Rattle.machine.specs.Memory.{Memory, Variable, fresh, is_variable, variable_slots, without_frame}
 use Rattle.machine.specs.States.{Waiting, Leak}

@@ -2,8 +2,8 @@
 use Rattle.std.proofs.Common.{◌≡◌, refl, sym, ap, ◌∙◌, inl, inr, ℕ, zero, suc, ◌+◌, ◌≤◌, false, not, List, [], ◌∷◌, ◌++◌, length, get_or, arith, length-append, append-nil}
 use Rattle.std.proofs.lemmas.List.{length-map, get_or_past, get_or_append_left, get_or_push}
 use Rattle.std.proofs.lemmas.Bool.{cases_lt}
-use Rattle.type_definitions.specs.Types.{words}
-use Rattle.flow_paths.specs.Objects.{Typing, object_at}
+use Rattle.machine.specs.type_definitions.Types.{words}
+use Rattle.machine.specs.flow_paths.Objects.{Typing, object_at}
 use Rattle.machine.specs.Words.{default}
 use Rattle.machine.specs.Words as machine
 use Rattle.machine.specs.Memory.{Memory, fresh, variable_slots, cell, no_cell, no_slot, declared, undeclared, with_new_cell}

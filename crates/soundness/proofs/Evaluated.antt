@@ -1,8 +1,8 @@
 -- What laws on expressions that may own go by: hands that show the same, and what keeps words typed.
 use Rattle.std.proofs.Common.{◌≡◌, eqb-true, refl, sym, ap, ◌∙◌, inl, inr, ℕ, suc, Bool, true, false, ◌==◌, List, [], ◌∷◌, length, arith, if◌then◌else◌}
-use Rattle.type_definitions.specs.declared.table.Shape.TheVariants as shape
-use Rattle.type_definitions.specs.Types.{shape_of, words, full, is_owning, is_scalar}
-use Rattle.flow_paths.specs.Objects.{Typing}
+use Rattle.machine.specs.type_definitions.declared.table.Shape.TheVariants as shape
+use Rattle.machine.specs.type_definitions.Types.{shape_of, words, full, is_owning, is_scalar}
+use Rattle.machine.specs.flow_paths.Objects.{Typing}
 use Rattle.machine.specs.Words.{default}
 use Rattle.machine.specs.Words as machine
 use Rattle.machine.specs.Memory.{Memory, Place, words_of, moved_out, with_new_cell}

@@ -3,14 +3,14 @@ use Rattle.std.proofs.Common.{◌≡◌, refl, sym, ap, ◌∙◌, subst, inl, i
 use Rattle.std.specs.Prelude.{nat_le}
 use Rattle.std.proofs.lemmas.List.{get_or-take, get_or-drop}
 use Rattle.std.proofs.lemmas.Bool.{cases_lt}
-use Rattle.type_definitions.specs.Types.{shape_of, words, is_owning}
-use Rattle.type_definitions.specs.declared.table.Static.{Static}
-use Rattle.resolved_tree.specs.declared.operator.Operator.{Operator}
-use Rattle.resolved_tree.specs.declared.operator.UnaryOperator.{UnaryOperator}
-use Rattle.typed_tree.specs.Trees.{TypedTree, Number, Literal, Name, Component as IntoComponent, Designated, Element, Call, EndOfFile, Parens, Unary, Binary, Short, IsNull, Aggregate, Alike, New, More}
-use Rattle.typed_tree.specs.Trees as typed
-use Rattle.flow_paths.specs.Objects.{Typing, designated}
-use Rattle.flow_paths.specs.Names.{has_call}
+use Rattle.machine.specs.type_definitions.Types.{shape_of, words, is_owning}
+use Rattle.machine.specs.type_definitions.declared.table.Static.{Static}
+use Rattle.machine.specs.resolved_tree.declared.operator.Operator.{Operator}
+use Rattle.machine.specs.resolved_tree.declared.operator.UnaryOperator.{UnaryOperator}
+use Rattle.machine.specs.typed_tree.Trees.{TypedTree, Number, Literal, Name, Component as IntoComponent, Designated, Element, Call, EndOfFile, Parens, Unary, Binary, Short, IsNull, Aggregate, Alike, New, More}
+use Rattle.machine.specs.typed_tree.Trees as typed
+use Rattle.machine.specs.flow_paths.Objects.{Typing, designated}
+use Rattle.machine.specs.flow_paths.Names.{has_call}
 use Rattle.machine.specs.Words.{access_offsets, fits_type}
 use Rattle.machine.specs.Words as machine
 use Rattle.machine.specs.Memory.{Slot, Memory, Base, Place, variable_slots, cell, no_slot, slots_at, slots_of, moved_out, gone_at, with_variable, live_words, with_new_cell}

@@ -1,10 +1,10 @@
 -- Where the i-th part of a record or an array stands.
 use Rattle.std.proofs.Common.{◌≡◌, refl, sym, ap, ◌∙◌, ℕ, suc, ◌+◌, ◌*◌, ◌<◌, true, ◌||◌, List, [], ◌∷◌, map, sum, take, length, get_or, arith, suc-mul, nat_lt, lt-ltb}
 use Rattle.std.proofs.lemmas.Bool.{false≢true}
-use Rattle.type_definitions.specs.declared.table.Component.{Component as Part}
-use Rattle.type_definitions.specs.declared.table.Shape.{Shape}
-use Rattle.type_definitions.specs.declared.table.Shape.TheVariants as shape
-use Rattle.type_definitions.specs.Types.{Table, shape_of, components_of, span, words, words_of}
+use Rattle.machine.specs.type_definitions.declared.table.Component.{Component as Part}
+use Rattle.machine.specs.type_definitions.declared.table.Shape.{Shape}
+use Rattle.machine.specs.type_definitions.declared.table.Shape.TheVariants as shape
+use Rattle.machine.specs.type_definitions.Types.{Table, shape_of, components_of, span, words, words_of}
 use Rattle.machine.specs.Words.{no_component, count_of, element_of, words_before, element_type}
 use Rattle.machine.specs.Evaluate.{part_type}
 use Rattle.machine.specs.Typed.{field_count, is_record, is_array}

@@ -1,8 +1,8 @@
 -- Words of a scalar type that are put at a place: owners don't see it, and words stay typed.
 use Rattle.std.proofs.Common.{◌≡◌, refl, sym, ap, ◌∙◌, subst, inl, inr, ℕ, suc, ◌+◌, ◌<◌, ◌≤◌, true, false, ◌&&◌, ◌⊎◌, List, ◌++◌, length, get_or, arith, append-nil, if◌then◌else◌}
 use Rattle.std.proofs.lemmas.Bool.{true≢false}
-use Rattle.type_definitions.specs.Types.{shape_of, words, full, view_of, is_scalar}
-use Rattle.flow_paths.specs.Objects.{Typing, object_at}
+use Rattle.machine.specs.type_definitions.Types.{shape_of, words, full, view_of, is_scalar}
+use Rattle.machine.specs.flow_paths.Objects.{Typing, object_at}
 use Rattle.machine.specs.Memory.{Memory, Place, Slot, no_slot, with_slots}
 use Rattle.machine.specs.States.{Waiting, Leak}
 use Rattle.soundness.specs.OwnedWays.Ways.{Step, Loc, OfRoot, IsSame, part}

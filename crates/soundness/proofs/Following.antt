@@ -1,8 +1,8 @@
 -- Where a declaration goes on, and which variables may own cells then, in a frame in which nothing
 -- waits.
 use Rattle.std.proofs.Common.{◌≡◌, refl, ap, ◌∙◌, ℕ, zero, suc, true, List, [], drop, length}
-use Rattle.typed_tree.specs.Trees.{TypedTree}
-use Rattle.flow_paths.specs.Scopes.{is_within, taken}
+use Rattle.machine.specs.typed_tree.Trees.{TypedTree}
+use Rattle.machine.specs.flow_paths.Scopes.{is_within, taken}
 use Rattle.machine.specs.States.{Waiting, State, Outcome, Goes, Ends}
 use Rattle.machine.specs.Step.{Turn, typing, waiting, led, successor}
 use Rattle.machine.specs.Step as steps

@@ -1,8 +1,8 @@
 -- A cell is freed, and its name becomes null.
 use Rattle.std.proofs.Common.{◌≡◌, refl, sym, ap, ◌∙◌, subst, ◌⊎◌, inl, inr, ℕ, zero, suc, ◌+◌, ◌≤◌, true, false, not, List, [], ◌∷◌, ◌++◌, take, drop, length, arith}
 use Rattle.std.proofs.lemmas.Bool.{true≢false}
-use Rattle.type_definitions.specs.Types.{shape_of, words}
-use Rattle.flow_paths.specs.Objects.{Typing}
+use Rattle.machine.specs.type_definitions.Types.{shape_of, words}
+use Rattle.machine.specs.flow_paths.Objects.{Typing}
 use Rattle.machine.specs.Words as machine
 use Rattle.machine.specs.Memory.{Slot, Memory, Place, HeapCell, fresh, cell, no_cell, slots_at, freed, as_freed, with_cell, stored}
 use Rattle.machine.specs.Memory as memory

@@ -2,9 +2,9 @@
 use Rattle.std.proofs.Common.{◌≡◌, refl, sym, ap, ◌∙◌, subst, ◌⊎◌, inl, inr, ℕ, suc, ◌+◌, true, false, not, ◌==◌, List, [], ◌∷◌, ◌++◌, length, get_or, arith, append-nil, if◌then◌else◌}
 use Rattle.std.proofs.lemmas.List.{get_or_past}
 use Rattle.std.proofs.lemmas.Bool.{false≢true}
-use Rattle.place_names.specs.declared.fact.Fact.{Fact}
-use Rattle.type_definitions.specs.Types.{words}
-use Rattle.flow_paths.specs.Objects.{Typing}
+use Rattle.machine.specs.place_names.declared.fact.Fact.{Fact}
+use Rattle.machine.specs.type_definitions.Types.{words}
+use Rattle.machine.specs.flow_paths.Objects.{Typing}
 use Rattle.machine.specs.Words as machine
 use Rattle.machine.specs.Memory.{Memory, HeapCell, fresh, cell, no_cell, no_slot, with_new_cell}
 use Rattle.machine.specs.States.{Waiting, Leak}

@@ -1,6 +1,6 @@
 -- Parts of parts, and locations taken apart.
 use Rattle.std.proofs.Common.{◌≡◌, refl, sym, ap, ◌∙◌, ℕ, ◌+◌, ◌*◌, true, ◌&&◌, List, [], ◌∷◌, ◌++◌, length, nat_lt, arith, append-nil}
-use Rattle.type_definitions.specs.Types.{Table, shape_of, fields, words}
+use Rattle.machine.specs.type_definitions.Types.{Table, shape_of, fields, words}
 use Rattle.machine.specs.Words.{words_before, component_type, element_type, element_count}
 use Rattle.soundness.specs.OwnedWays.Ways.{Step, Component, Element, Root, Loc, OfRoot, OfCell, Inside, part, Below}
 use Rattle.soundness.specs.PartOffsets.Parts.{type_in, offset_in, has_part, owns_one, is_leaf}

@@ -2,12 +2,12 @@
 use Rattle.std.proofs.Common.{◌≡◌, refl, sym, ap, ◌∙◌, subst, ◌⊎◌, inl, inr, ℕ, zero, suc, ◌+◌, ◌*◌, ◌<◌, ◌≤◌, Bool, true, ◌==◌, List, [], ◌∷◌, ◌++◌, map, length, get_or, ℤ, arith, append-nil, eqb-true, length-append, suc-mul, nat_lt, ltb-true, if◌then◌else◌}
 use Rattle.std.proofs.lemmas.List.{get_or_past, get_or_append_left, get_or-append-add}
 use Rattle.std.proofs.lemmas.Bool.{false≢true}
-use Rattle.spark_base.specs.Lists.{Has}
+use Rattle.machine.specs.spark_base.Lists.{Has}
 use Rattle.spark_base.proofs.Lists.{ends}
-use Rattle.type_definitions.specs.declared.table.Shape.{Shape}
-use Rattle.type_definitions.specs.declared.table.Shape.TheVariants as shape
-use Rattle.type_definitions.specs.Types.{shape_of, components_of, span, words, words_of as shape_words, full, view_of, is_scalar, is_nil}
-use Rattle.flow_paths.specs.Objects.{Typing}
+use Rattle.machine.specs.type_definitions.declared.table.Shape.{Shape}
+use Rattle.machine.specs.type_definitions.declared.table.Shape.TheVariants as shape
+use Rattle.machine.specs.type_definitions.Types.{shape_of, components_of, span, words, words_of as shape_words, full, view_of, is_scalar, is_nil}
+use Rattle.machine.specs.flow_paths.Objects.{Typing}
 use Rattle.machine.specs.Words as machine
 use Rattle.machine.specs.Typed.{is_array}
 use Rattle.machine.specs.Memory.{Slot, Memory, Place, fresh, no_slot, slots_of, words_of}

@@ -2,11 +2,11 @@
 use Rattle.std.proofs.Common.{◌≡◌, refl, sym, ap, ◌∙◌, subst, ◌⊎◌, inl, inr, ℕ, zero, suc, ◌+◌, ◌-◌, ◌*◌, ◌<◌, ◌≤◌, Bool, true, false, not, ◌||◌, List, [], ◌∷◌, ◌++◌, map, flat_map, sum, take, drop, length, get_or, slice_get, nat_lt, ltb-true, arith, append-nil, length-append, length-drop}
 use Rattle.std.proofs.lemmas.List.{length-map, length-take-le}
 use Rattle.std.proofs.lemmas.Bool.{cases_lt, false≢true, true≢false}
-use Rattle.type_definitions.specs.declared.table.Component.{Component as Part}
-use Rattle.type_definitions.specs.declared.table.Shape.{Shape}
-use Rattle.type_definitions.specs.declared.table.Shape.TheVariants as shape
-use Rattle.type_definitions.specs.Types.{Table, shape_of, shape_found, components_of, fields, span, words, words_within, words_of as shape_words, is_owning, any_owns, owns_of, is_scalar, full, view_of}
-use Rattle.flow_paths.specs.Objects.{Typing, object_at}
+use Rattle.machine.specs.type_definitions.declared.table.Component.{Component as Part}
+use Rattle.machine.specs.type_definitions.declared.table.Shape.{Shape}
+use Rattle.machine.specs.type_definitions.declared.table.Shape.TheVariants as shape
+use Rattle.machine.specs.type_definitions.Types.{Table, shape_of, shape_found, components_of, fields, span, words, words_within, words_of as shape_words, is_owning, any_owns, owns_of, is_scalar, full, view_of}
+use Rattle.machine.specs.flow_paths.Objects.{Typing, object_at}
 use Rattle.machine.specs.Words.{default, default_within, default_of, access_offsets, no_component, element_count, element_of, count_of}
 use Rattle.machine.specs.Words as machine
 use Rattle.machine.specs.Memory.{Slot, Memory, HeapCell, Base, Place, fresh, variable_slots, cell, no_cell, no_slot, slots_at, slots_of, words_of, put, with_slots, stored, moved_out, gone_at, declared, undeclared, with_new_cell, freed, as_freed}

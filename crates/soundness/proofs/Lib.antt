@@ -70,3 +70,7 @@ pub mod OwnedLoans
 pub mod ExactFacts
 -- names and expressions of programs with borrowers and observers
 pub mod ViewedSoundness
+-- lemmas of what is below, for those above
+pub use Rattle.spark_base.proofs.Lists as Lists
+pub use Rattle.place_names.proofs.Names as PlaceNames
+pub use Rattle.place_names.proofs.Facts as PlaceFacts

@@ -1,7 +1,7 @@
 -- The parameter of a loop: owners don't see its values.
 use Rattle.std.proofs.Common.{◌≡◌, refl, sym, ap, ◌∙◌, subst, inl, inr, ℕ, true, not, List, [], ◌∷◌, ℤ, unsigned_abs}
-use Rattle.type_definitions.specs.Types.{is_scalar, full}
-use Rattle.flow_paths.specs.Objects.{Typing, object_at}
+use Rattle.machine.specs.type_definitions.Types.{is_scalar, full}
+use Rattle.machine.specs.flow_paths.Objects.{Typing, object_at}
 use Rattle.machine.specs.Words as machine
 use Rattle.machine.specs.Memory.{Memory, Variable, variable_slots}
 use Rattle.machine.specs.States.{Waiting, Leak}

@@ -1,6 +1,6 @@
 -- Ways that begin near a frame: names of the frame do, and what begins with such a way.
 use Rattle.std.proofs.Common.{ap, ◌∙◌, sym, subst, inl, inr, ℕ, List, [], ◌∷◌, if◌then◌else◌}
-use Rattle.flow_paths.specs.Objects.{Typing, is_package_object}
+use Rattle.machine.specs.flow_paths.Objects.{Typing, is_package_object}
 use Rattle.soundness.specs.OwnedWays.Ways.{Step, OfVariable, OfHand, Way, Object, Lost, Into, All, Under, Past, Named, along}
 use Rattle.soundness.specs.Seen.{home, IsNear}
 use Rattle.soundness.proofs.Contents.{bool_cases}

@@ -2,7 +2,7 @@
 use Rattle.std.proofs.Common.{◌≡◌, refl, ap, ◌+◌, ◌<◌, Bool, true, false, ◌&&◌, ℤ, ◌-ℤ◌, int_le, unsigned_abs, arith, if◌then◌else◌}
 use Rattle.std.proofs.lemmas.Int.{ints}
 use Rattle.std.proofs.lemmas.Bool.{false≢true}
-use Rattle.type_definitions.specs.Types.{span}
+use Rattle.machine.specs.type_definitions.Types.{span}
 use Rattle.soundness.specs.TypedLaws.Needed.{IndexLaw}
 
 both_true : (a b : Bool) → a && b ≡ true → (a ≡ true) × (b ≡ true)

@@ -1,12 +1,12 @@
 -- Where a step goes on, and which variables may own cells then, whatever waits.
 use Rattle.std.proofs.Common.{◌≡◌, refl, sym, ap, ◌∙◌, subst, inl, inr, ℕ, ◌<◌, Bool, true, false, not, ◌&&◌, List, [], ◌∷◌, ◌++◌, drop, length, get_or, nat_lt, ltb-true, int_le, arith, ℤ, Option, Some, None, if◌then◌else◌}
 use Rattle.std.proofs.lemmas.Bool.{false≢true}
-use Rattle.spark_base.specs.declared.position.Pos.{Pos}
-use Rattle.type_definitions.specs.Types.{full}
-use Rattle.typed_tree.specs.Trees.{TypedTree, TypedCode, Text, Name, Parens, Image, Binary, More}
-use Rattle.flow_paths.specs.Objects.{Typing, object_at, is_anonymous, designated}
-use Rattle.flow_paths.specs.Names.{first}
-use Rattle.flow_paths.specs.Scopes.{is_within, is_last}
+use Rattle.machine.specs.spark_base.declared.position.Pos.{Pos}
+use Rattle.machine.specs.type_definitions.Types.{full}
+use Rattle.machine.specs.typed_tree.Trees.{TypedTree, TypedCode, Text, Name, Parens, Image, Binary, More}
+use Rattle.machine.specs.flow_paths.Objects.{Typing, object_at, is_anonymous, designated}
+use Rattle.machine.specs.flow_paths.Names.{first}
+use Rattle.machine.specs.flow_paths.Scopes.{is_within, is_last}
 use Rattle.run_values.specs.declared.items.Item.{Item}
 use Rattle.run_values.specs.declared.items.Item.TheVariants as item
 use Rattle.run_values.specs.Items.{next_item}

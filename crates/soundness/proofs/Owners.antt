@@ -1,8 +1,8 @@
 -- A sound state is well owned.
 use Rattle.std.proofs.Common.{◌≡◌, refl, sym, ap, ◌∙◌, subst, ◌⊎◌, inl, inr, ℕ, zero, suc, ◌<◌, ◌≤◌, Bool, true, false, not, ◌&&◌, ◌==◌, eqb-true, List, [], ◌∷◌, ◌++◌, get_or, arith, append-nil}
 use Rattle.std.proofs.lemmas.Bool.{false≢true, true≢false}
-use Rattle.type_definitions.specs.Types.{is_owning}
-use Rattle.flow_paths.specs.Objects.{Typing, object_at}
+use Rattle.machine.specs.type_definitions.Types.{is_owning}
+use Rattle.machine.specs.flow_paths.Objects.{Typing, object_at}
 use Rattle.machine.specs.Memory.{Slot, cell, no_slot}
 use Rattle.machine.specs.States.{Leak, State}
 use Rattle.machine.specs.Owners.{Holder, InVariable, InWaiting, InCell, waiting_in, holder_type, holder_slots, may_own, is_in_formal, owned, Owns, IsLeaked, HasOneOwner, IsHeld, leaked, by_variable, by_waiting, by_cell, WellOwned}

@@ -1,17 +1,17 @@
 -- Calls whose formals are of scalar types: actuals are read, or are names of places that are copied
 -- back to when the call ends. Neither changes an owner, and formals own nothing.
 use Rattle.std.proofs.Common.{◌≡◌, refl, ap, ◌∙◌, subst, ◌⊎◌, inl, inr, ℕ, zero, suc, true, false, List, [], ◌∷◌, map, length, get_or, nat_le}
-use Rattle.spark_base.specs.Lists.{Has}
-use Rattle.place_names.specs.declared.act.Act.TheVariants as act
-use Rattle.place_names.specs.declared.act.Placed.{Placed}
-use Rattle.place_names.specs.declared.fact.Fact.{Fact}
-use Rattle.place_names.specs.Names.{Name as PlaceName}
-use Rattle.place_names.specs.Facts.{adds, effect}
-use Rattle.type_definitions.specs.Types.{shape_of, full, is_owning, is_scalar}
-use Rattle.typed_tree.specs.Trees.{TypedTree, More}
-use Rattle.flow_paths.specs.Objects.{Typing, Signature, sub_at}
-use Rattle.flow_paths.specs.Names.{waiting as waits_in}
-use Rattle.flow_paths.specs.Laid.{FlowSub, FlowProgram, flow_typing}
+use Rattle.machine.specs.spark_base.Lists.{Has}
+use Rattle.machine.specs.place_names.declared.act.Act.TheVariants as act
+use Rattle.machine.specs.place_names.declared.act.Placed.{Placed}
+use Rattle.machine.specs.place_names.declared.fact.Fact.{Fact}
+use Rattle.machine.specs.place_names.Names.{Name as PlaceName}
+use Rattle.machine.specs.place_names.Facts.{adds, effect}
+use Rattle.machine.specs.type_definitions.Types.{shape_of, full, is_owning, is_scalar}
+use Rattle.machine.specs.typed_tree.Trees.{TypedTree, More}
+use Rattle.machine.specs.flow_paths.Objects.{Typing, Signature, sub_at}
+use Rattle.machine.specs.flow_paths.Names.{waiting as waits_in}
+use Rattle.machine.specs.flow_paths.Laid.{FlowSub, FlowProgram, flow_typing}
 use Rattle.machine.specs.Words as machine
 use Rattle.machine.specs.Memory.{Memory}
 use Rattle.machine.specs.Evaluate.{StorageError}

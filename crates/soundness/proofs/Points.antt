@@ -7,18 +7,18 @@ use Rattle.std.specs.Cmp.Lexicographic.{pointwise_decides}
 use Rattle.std.proofs.lemmas.Bool.Decides.{Decides-eqb}
 use Rattle.std.proofs.lemmas.List.{length-map}
 use Rattle.std.proofs.lemmas.Bool.{false≢true}
-use Rattle.spark_base.specs.Lists.{Has}
+use Rattle.machine.specs.spark_base.Lists.{Has}
 use Rattle.spark_base.proofs.Lists.{Has-append_right, Has-map}
-use Rattle.type_definitions.specs.Types.{Table}
-use Rattle.typed_tree.specs.Programs.{TypedSub, TypedProgram}
-use Rattle.flow_paths.specs.declared.report.Effects.{Effects}
-use Rattle.flow_paths.specs.Acts as flow
-use Rattle.flow_paths.specs.Objects.{Signature, Typing}
-use Rattle.flow_paths.specs.Points.{PointName, same_place, same_point, NamedPoint, FlowPoint, flow_point}
-use Rattle.flow_paths.specs.Laid.{FlowSub, FlowProgram, NamedSub, number_in, signature, frame_of, kept_roots, sub_facts, flow_sub, typing_of, flow_program, flow_named, named_subs, sub_temporaries, all_named}
-use Rattle.flow_paths.specs.Paths.{PathPoint, path_point}
-use Rattle.flow_paths.specs.Effects.{all_acts, path_points}
-use Rattle.flow_paths.specs.Scopes.{Differ, ScopesHold, Leads, scope_behind}
+use Rattle.machine.specs.type_definitions.Types.{Table}
+use Rattle.machine.specs.typed_tree.Programs.{TypedSub, TypedProgram}
+use Rattle.machine.specs.flow_paths.declared.report.Effects.{Effects}
+use Rattle.machine.specs.flow_paths.Acts as flow
+use Rattle.machine.specs.flow_paths.Objects.{Signature, Typing}
+use Rattle.machine.specs.flow_paths.Points.{PointName, same_place, same_point, NamedPoint, FlowPoint, flow_point}
+use Rattle.machine.specs.flow_paths.Laid.{FlowSub, FlowProgram, NamedSub, number_in, signature, frame_of, kept_roots, sub_facts, flow_sub, typing_of, flow_program, flow_named, named_subs, sub_temporaries, all_named}
+use Rattle.machine.specs.flow_paths.Paths.{PathPoint, path_point}
+use Rattle.machine.specs.flow_paths.Effects.{all_acts, path_points}
+use Rattle.machine.specs.flow_paths.Scopes.{Differ, ScopesHold, Leads, scope_behind}
 use Rattle.machine.specs.States.{no_sub, sub_of}
 use Rattle.machine.specs.Run.{no_point}
 use Rattle.soundness.specs.Sound.{IsNamedSub, IsAtPoint}

@@ -3,7 +3,7 @@
 use Rattle.std.proofs.Common.{◌≡◌, refl, sym, ap, ◌∙◌, ◌⊎◌, inl, inr, ℕ, zero, suc, ◌+◌, ◌-◌, ◌<◌, ◌≤◌, true, false, not, List, [], ◌∷◌, ◌++◌, map, drop, length, get_or, arith, length-append}
 use Rattle.std.proofs.lemmas.List.{get_or_past, get_or_append_left, get_or-append-add}
 use Rattle.std.proofs.lemmas.Bool.{cases_lt, true≢false}
-use Rattle.flow_paths.specs.Objects.{Typing}
+use Rattle.machine.specs.flow_paths.Objects.{Typing}
 use Rattle.machine.specs.Memory.{Memory, HeapCell, cell, no_cell, as_freed, given_up}
 use Rattle.machine.specs.States.{Waiting, Leak, State}
 use Rattle.machine.specs.Owners.{WellOwned, waiting_in}

@@ -1,11 +1,11 @@
 -- Facts after acts, one list after the other, and the ways of names along steps.
 use Rattle.std.proofs.Common.{◌≡◌, refl, ap, ℕ, false, not, List, [], ◌∷◌, ◌++◌, map, filter}
-use Rattle.place_names.specs.declared.act.Act.{Act}
-use Rattle.place_names.specs.declared.act.Act.TheVariants as act
-use Rattle.place_names.specs.declared.act.Placed.{Placed}
-use Rattle.place_names.specs.declared.fact.Fact.{Fact}
-use Rattle.place_names.specs.Names.{Name as PlaceName}
-use Rattle.place_names.specs.Facts.{effect}
+use Rattle.machine.specs.place_names.declared.act.Act.{Act}
+use Rattle.machine.specs.place_names.declared.act.Act.TheVariants as act
+use Rattle.machine.specs.place_names.declared.act.Placed.{Placed}
+use Rattle.machine.specs.place_names.declared.fact.Fact.{Fact}
+use Rattle.machine.specs.place_names.Names.{Name as PlaceName}
+use Rattle.machine.specs.place_names.Facts.{effect}
 use Rattle.soundness.specs.OwnedWays.Ways.{Way, Into, All, Named, after, AllowsAll, number_of}
 use Rattle.soundness.specs.OwnedWays.Ways as ways
 use Rattle.machine.specs.Evaluate as run

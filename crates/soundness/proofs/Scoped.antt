@@ -2,8 +2,8 @@
 -- stored at.
 use Rattle.std.proofs.Common.{◌≡◌, refl, sym, ap, ◌∙◌, subst, ◌⊎◌, inl, inr, ℕ, ◌+◌, Bool, true, false, not, ◌||◌, ◌==◌, eqb-true, List, [], ◌∷◌, ◌++◌, take, drop, length, get_or, if◌then◌else◌}
 use Rattle.std.proofs.lemmas.Bool.{true≢false}
-use Rattle.flow_paths.specs.Objects.{Typing, object_at, designated}
-use Rattle.flow_paths.specs.Scopes.{is_within, is_last}
+use Rattle.machine.specs.flow_paths.Objects.{Typing, object_at, designated}
+use Rattle.machine.specs.flow_paths.Scopes.{is_within, is_last}
 use Rattle.machine.specs.Words as machine
 use Rattle.machine.specs.Memory.{Slot, Memory, Base, OfVariable, OfCell, Place, fresh, no_slot, variable_slots, slots_at, cell, words_of, put, stored, declared, undeclared, freed}
 use Rattle.machine.specs.Evaluate.{Now, Evaluated, Done, Raises, Traps, followed_by, walked, designated_place, cell_place, component_place, element_place, Touched}

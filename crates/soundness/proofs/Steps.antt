@@ -2,11 +2,11 @@
 use Rattle.std.proofs.Common.{◌≡◌, refl, sym, ap, ◌∙◌, subst, inl, inr, ℕ, zero, suc, ◌+◌, ◌-◌, ◌*◌, ◌<◌, ◌≤◌, Bool, true, false, not, ◌&&◌, ◌==◌, eqb-true, eq-eqb, List, [], ◌∷◌, ◌++◌, map, sum, take, drop, length, get_or, nat_lt, ltb-true, arith, length-drop, append-nil, if◌then◌else◌}
 use Rattle.std.proofs.lemmas.List.{length-map, get_or-take, get_or-drop, length-take-le}
 use Rattle.std.proofs.lemmas.Bool.{false≢true, true≢false}
-use Rattle.type_definitions.specs.declared.table.Shape.{Shape}
-use Rattle.type_definitions.specs.declared.table.Shape.TheVariants as shape
-use Rattle.type_definitions.specs.declared.table.Component.{Component as Part}
-use Rattle.type_definitions.specs.Types.{Table, shape_of, components_of, fields, words, words_of as shape_words, full, view_of, is_scalar}
-use Rattle.flow_paths.specs.Objects.{Typing, object_at}
+use Rattle.machine.specs.type_definitions.declared.table.Shape.{Shape}
+use Rattle.machine.specs.type_definitions.declared.table.Shape.TheVariants as shape
+use Rattle.machine.specs.type_definitions.declared.table.Component.{Component as Part}
+use Rattle.machine.specs.type_definitions.Types.{Table, shape_of, components_of, fields, words, words_of as shape_words, full, view_of, is_scalar}
+use Rattle.machine.specs.flow_paths.Objects.{Typing, object_at}
 use Rattle.machine.specs.Words.{no_component, access_offsets, element_of, count_of, component_type, element_type, element_count}
 use Rattle.machine.specs.Words as machine
 use Rattle.machine.specs.Memory.{Slot, Memory, Base, Place, HeapCell, fresh, cell, no_slot, slots_at, slots_of, words_of, put, with_slots, stored, moved_out, gone_at, at_number}

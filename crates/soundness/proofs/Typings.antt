@@ -2,22 +2,22 @@
 -- does to places goes by the former alone.
 use Rattle.std.proofs.Common.{◌≡◌, refl, sym, ap, ◌∙◌, subst, ◌⊎◌, inl, inr, ℕ, zero, suc, Bool, true, false, not, ◌&&◌, List, [], ◌∷◌, ◌++◌, map, flat_map, get_or, Option, Some, None, is_some, if◌then◌else◌}
 use Rattle.std.proofs.lemmas.Bool.{true≢false}
-use Rattle.spark_base.specs.Lists.{Has}
-use Rattle.spark_base.specs.declared.position.Pos.{Pos}
-use Rattle.place_names.specs.declared.act.Act.{Act}
-use Rattle.place_names.specs.declared.act.Act.TheVariants as act
-use Rattle.place_names.specs.Names.{Name as PlaceName}
-use Rattle.type_definitions.specs.Types.{Table, full, is_owning, parts}
-use Rattle.typed_tree.specs.declared.object.Object.{Object}
-use Rattle.typed_tree.specs.Trees.{TypedTree, Name, Component, Designated, Element, Call, Parens, Image, Unary, Binary, Short, IsNull, Aggregate, Alike, New, More}
-use Rattle.typed_tree.specs.Programs.{TypedProgram, text_io}
-use Rattle.flow_paths.specs.Instructions.{Instruction, Skip, Declare, Assign, Output, Input, Release, Test, Choose, Start, Next, Evaluate, LeaveLoop, Hold, EndScope, Finish, Fall}
-use Rattle.flow_paths.specs.Instructions as instruction
-use Rattle.flow_paths.specs.Objects.{Signature, Typing, object_at, sub_at, is_variable, is_formal_kind, is_state, is_borrowing, is_observing, is_borrower, is_observer, is_formal, is_package_object, is_named_access, view_of, traverses, Passing, passing_by, passing, first_traversed, passings}
-use Rattle.flow_paths.specs.Objects as objects
-use Rattle.flow_paths.specs.Names.{Written, has_call, name_of, written, first, source, whole}
-use Rattle.flow_paths.specs.Acts.{placed, naming, used, acts_in, index_acts, source_acts, observe, actual_values, actual_acts, declared_acts, target_pos, reborrow, stored_acts, assigned_to, gives_variable, returned_acts, acts_of}
-use Rattle.flow_paths.specs.Laid.{Temporary, temporary_object, NamedSub, signature, typing_of, flow_typing, flow_program, flow_named}
+use Rattle.machine.specs.spark_base.Lists.{Has}
+use Rattle.machine.specs.spark_base.declared.position.Pos.{Pos}
+use Rattle.machine.specs.place_names.declared.act.Act.{Act}
+use Rattle.machine.specs.place_names.declared.act.Act.TheVariants as act
+use Rattle.machine.specs.place_names.Names.{Name as PlaceName}
+use Rattle.machine.specs.type_definitions.Types.{Table, full, is_owning, parts}
+use Rattle.machine.specs.typed_tree.declared.object.Object.{Object}
+use Rattle.machine.specs.typed_tree.Trees.{TypedTree, Name, Component, Designated, Element, Call, Parens, Image, Unary, Binary, Short, IsNull, Aggregate, Alike, New, More}
+use Rattle.machine.specs.typed_tree.Programs.{TypedProgram, text_io}
+use Rattle.machine.specs.flow_paths.Instructions.{Instruction, Skip, Declare, Assign, Output, Input, Release, Test, Choose, Start, Next, Evaluate, LeaveLoop, Hold, EndScope, Finish, Fall}
+use Rattle.machine.specs.flow_paths.Instructions as instruction
+use Rattle.machine.specs.flow_paths.Objects.{Signature, Typing, object_at, sub_at, is_variable, is_formal_kind, is_state, is_borrowing, is_observing, is_borrower, is_observer, is_formal, is_package_object, is_named_access, view_of, traverses, Passing, passing_by, passing, first_traversed, passings}
+use Rattle.machine.specs.flow_paths.Objects as objects
+use Rattle.machine.specs.flow_paths.Names.{Written, has_call, name_of, written, first, source, whole}
+use Rattle.machine.specs.flow_paths.Acts.{placed, naming, used, acts_in, index_acts, source_acts, observe, actual_values, actual_acts, declared_acts, target_pos, reborrow, stored_acts, assigned_to, gives_variable, returned_acts, acts_of}
+use Rattle.machine.specs.flow_paths.Laid.{Temporary, temporary_object, NamedSub, signature, typing_of, flow_typing, flow_program, flow_named}
 use Rattle.soundness.proofs.Points.{all_signatures}
 
 abbrev temporaries_of : NamedSub → List Temporary

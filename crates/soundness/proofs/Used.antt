@@ -4,24 +4,24 @@ use Rattle.std.proofs.Common.{◌≡◌, refl, sym, ap, ◌∙◌, subst, ◌⊎
 use Rattle.std.specs.Prelude.{filter}
 use Rattle.std.specs.List.{list_any}
 use Rattle.std.proofs.lemmas.Bool.{false≢true, true≢false}
-use Rattle.spark_base.specs.Lists.{Has}
-use Rattle.spark_base.specs.declared.position.Pos.{Pos}
+use Rattle.machine.specs.spark_base.Lists.{Has}
+use Rattle.machine.specs.spark_base.declared.position.Pos.{Pos}
 use Rattle.spark_base.proofs.Lists.{Has-append_left, Has-append_right, Has-append_cases, Has-filter, Has-map_from}
-use Rattle.place_names.specs.declared.act.Act.{Act}
-use Rattle.place_names.specs.declared.act.Act.TheVariants as act
-use Rattle.place_names.specs.declared.act.Placed.{Placed}
-use Rattle.place_names.specs.declared.fact.Fact.{Fact}
-use Rattle.place_names.specs.Facts.{adds, removes, effect}
-use Rattle.typed_tree.specs.declared.object.Object.{Object}
-use Rattle.typed_tree.specs.Trees.{TypedTree}
-use Rattle.flow_paths.specs.declared.report.Effects.{Effects}
-use Rattle.flow_paths.specs.Instructions.{Instruction, Skip, Declare, Assign, Call, Output, Input, Release, Test, Choose, Start, Next, Evaluate, LeaveLoop, Hold, EndScope, Finish, Fall}
-use Rattle.flow_paths.specs.Objects.{Typing, is_package_object}
-use Rattle.flow_paths.specs.Acts.{placed}
-use Rattle.flow_paths.specs.Points.{FlowPoint}
-use Rattle.flow_paths.specs.Laid.{FlowSub, FlowProgram, flow_typing}
-use Rattle.flow_paths.specs.Paths.{path_point, acts_at, facts_before}
-use Rattle.flow_paths.specs.Effects.{is_in, act_writes, act_reads, writes_text, reads_text, point_writes, point_reads, is_global, own_writes, own_reads, calls, sub_calls, flow_sub_at, ends, calls_on, AreEffects, read_by, written_by, global_act, globals_from, globals_of, called_acts, all_acts, path_points}
+use Rattle.machine.specs.place_names.declared.act.Act.{Act}
+use Rattle.machine.specs.place_names.declared.act.Act.TheVariants as act
+use Rattle.machine.specs.place_names.declared.act.Placed.{Placed}
+use Rattle.machine.specs.place_names.declared.fact.Fact.{Fact}
+use Rattle.machine.specs.place_names.Facts.{adds, removes, effect}
+use Rattle.machine.specs.typed_tree.declared.object.Object.{Object}
+use Rattle.machine.specs.typed_tree.Trees.{TypedTree}
+use Rattle.machine.specs.flow_paths.declared.report.Effects.{Effects}
+use Rattle.machine.specs.flow_paths.Instructions.{Instruction, Skip, Declare, Assign, Call, Output, Input, Release, Test, Choose, Start, Next, Evaluate, LeaveLoop, Hold, EndScope, Finish, Fall}
+use Rattle.machine.specs.flow_paths.Objects.{Typing, is_package_object}
+use Rattle.machine.specs.flow_paths.Acts.{placed}
+use Rattle.machine.specs.flow_paths.Points.{FlowPoint}
+use Rattle.machine.specs.flow_paths.Laid.{FlowSub, FlowProgram, flow_typing}
+use Rattle.machine.specs.flow_paths.Paths.{path_point, acts_at, facts_before}
+use Rattle.machine.specs.flow_paths.Effects.{is_in, act_writes, act_reads, writes_text, reads_text, point_writes, point_reads, is_global, own_writes, own_reads, calls, sub_calls, flow_sub_at, ends, calls_on, AreEffects, read_by, written_by, global_act, globals_from, globals_of, called_acts, all_acts, path_points}
 use Rattle.soundness.specs.OwnedWays.Ways.{after}
 use Rattle.soundness.specs.Sound.{Uses}
 use Rattle.soundness.proofs.Contents.{bool_cases}

@@ -2,9 +2,9 @@
 use Rattle.std.proofs.Common.{◌≡◌, refl, sym, ap, ◌∙◌, ◌⊎◌, inl, inr, ℕ, zero, suc, ◌≤◌, Bool, true, false, ◌||◌, ◌==◌, eqb-true, List, [], ◌∷◌, ◌++◌, take, drop, arith, Some}
 use Rattle.std.proofs.lemmas.List.Folds.{list_any-append}
 use Rattle.std.proofs.lemmas.Bool.{false≢true}
-use Rattle.flow_paths.specs.Instructions.{Instruction, Call, Evaluate}
-use Rattle.flow_paths.specs.Objects.{Typing}
-use Rattle.flow_paths.specs.Scopes.{is_within}
+use Rattle.machine.specs.flow_paths.Instructions.{Instruction, Call, Evaluate}
+use Rattle.machine.specs.flow_paths.Objects.{Typing}
+use Rattle.machine.specs.flow_paths.Scopes.{is_within}
 use Rattle.soundness.specs.Sound.{is_temporary_object, temporaries_in}
 use Rattle.soundness.proofs.Contents.{bool_cases}
 

@@ -1,10 +1,10 @@
 -- What waits: nothing for texts without calls; and what waits in the frames after a step.
 use Rattle.std.proofs.Common.{◌≡◌, refl, ap, ◌∙◌, ℕ, ◌+◌, Bool, true, false, ◌||◌, List, [], ◌∷◌, ◌++◌, flat_map, take, drop, arith, Option, Some, None, if◌then◌else◌}
 use Rattle.std.proofs.lemmas.Bool.{true≢false}
-use Rattle.typed_tree.specs.Trees.{TypedTree, Number, Literal, Text, Name, Component as IntoComponent, Designated, Element, Call, EndOfFile, Parens, Image, Unary, Binary, Short, IsNull, Aggregate, Alike, New, NoMore, More}
-use Rattle.typed_tree.specs.Trees as typed
-use Rattle.flow_paths.specs.Names.{has_call, waiting as waits_in}
-use Rattle.flow_paths.specs.Laid.{FlowProgram}
+use Rattle.machine.specs.typed_tree.Trees.{TypedTree, Number, Literal, Text, Name, Component as IntoComponent, Designated, Element, Call, EndOfFile, Parens, Image, Unary, Binary, Short, IsNull, Aggregate, Alike, New, NoMore, More}
+use Rattle.machine.specs.typed_tree.Trees as typed
+use Rattle.machine.specs.flow_paths.Names.{has_call, waiting as waits_in}
+use Rattle.machine.specs.flow_paths.Laid.{FlowProgram}
 use Rattle.machine.specs.States.{Waiting, Frame}
 use Rattle.machine.specs.Step.{Turn, begun, led, main_frame}
 

@@ -21,3 +21,5 @@ pub mod OwnedLoans
 pub mod ExactFacts
 -- names and expressions of programs with borrowers and observers
 pub mod ViewedSoundness
+-- what is below, for those above
+pub use Rattle.run_values.specs as run_values

@@ -1,25 +1,25 @@
 -- Of what is asked of an accepted program so that its runs are sound: what typing, the layout and the
 -- rules see to. Nothing here speaks of a run.
 use Rattle.std.specs.Prelude.{◌≡◌, ◌⊎◌, ℕ, true, false, List, [], ◌∷◌, take, drop, get_or, Some, None, is_some}
-use Rattle.spark_base.specs.Lists.{Has}
-use Rattle.place_names.specs.declared.act.Mode.{Mode}
-use Rattle.place_names.specs.declared.act.Mode.TheVariants as mode
-use Rattle.place_names.specs.declared.act.Placed.{Placed}
-use Rattle.place_names.specs.declared.fact.Fact.TheVariants.{Moved}
-use Rattle.place_names.specs.Facts.{adds}
-use Rattle.place_names.specs.Names.{Name as PlaceName}
-use Rattle.type_definitions.specs.Types.{Table, full, is_scalar}
-use Rattle.typed_tree.specs.Trees.{TypedTree, Name, More}
-use Rattle.typed_tree.specs.Programs.{TypedProgram}
-use Rattle.flow_paths.specs.declared.report.Effects.{Effects}
-use Rattle.flow_paths.specs.Instructions.{Instruction, Declare, Assign, Call, Input, Release, Start, Evaluate, Hold, EndScope, Finish}
-use Rattle.flow_paths.specs.Objects.{Typing, object_at, is_formal, is_package_object}
-use Rattle.flow_paths.specs.Points.{NamedPoint, FlowPoint}
-use Rattle.flow_paths.specs.Laid.{FlowSub, FlowProgram, NamedSub, flow_typing, flow_program, flow_named}
-use Rattle.flow_paths.specs.Paths.{ControlPath, facts_before}
-use Rattle.flow_paths.specs.Effects.{path_points}
-use Rattle.flow_paths.specs.Names.{has_call}
-use Rattle.flow_paths.specs.Scopes.{taken, is_ready, is_within, Differ, ScopesHold}
+use Rattle.machine.specs.spark_base.Lists.{Has}
+use Rattle.machine.specs.place_names.declared.act.Mode.{Mode}
+use Rattle.machine.specs.place_names.declared.act.Mode.TheVariants as mode
+use Rattle.machine.specs.place_names.declared.act.Placed.{Placed}
+use Rattle.machine.specs.place_names.declared.fact.Fact.TheVariants.{Moved}
+use Rattle.machine.specs.place_names.Facts.{adds}
+use Rattle.machine.specs.place_names.Names.{Name as PlaceName}
+use Rattle.machine.specs.type_definitions.Types.{Table, full, is_scalar}
+use Rattle.machine.specs.typed_tree.Trees.{TypedTree, Name, More}
+use Rattle.machine.specs.typed_tree.Programs.{TypedProgram}
+use Rattle.machine.specs.flow_paths.declared.report.Effects.{Effects}
+use Rattle.machine.specs.flow_paths.Instructions.{Instruction, Declare, Assign, Call, Input, Release, Start, Evaluate, Hold, EndScope, Finish}
+use Rattle.machine.specs.flow_paths.Objects.{Typing, object_at, is_formal, is_package_object}
+use Rattle.machine.specs.flow_paths.Points.{NamedPoint, FlowPoint}
+use Rattle.machine.specs.flow_paths.Laid.{FlowSub, FlowProgram, NamedSub, flow_typing, flow_program, flow_named}
+use Rattle.machine.specs.flow_paths.Paths.{ControlPath, facts_before}
+use Rattle.machine.specs.flow_paths.Effects.{path_points}
+use Rattle.machine.specs.flow_paths.Names.{has_call}
+use Rattle.machine.specs.flow_paths.Scopes.{taken, is_ready, is_within, Differ, ScopesHold}
 use Rattle.machine.specs.States.{sub_of}
 use Rattle.machine.specs.Run.{no_point}
 use Rattle.soundness.specs.TypedLaws.Needed.{Stays, IsPlace}

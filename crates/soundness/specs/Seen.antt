@@ -5,8 +5,8 @@
 -- number.
 use Rattle.std.specs.Prelude.{◌≡◌, ◌⊎◌, ℕ, suc, Bool, true, false, not, ◌&&◌, ◌==◌, List, [], ◌∷◌, length, get_or, if◌then◌else◌}
 use Rattle.std.specs.List.{list_any}
-use Rattle.type_definitions.specs.Types.{Table, is_owning}
-use Rattle.flow_paths.specs.Objects.{Typing, object_at, is_package_object}
+use Rattle.machine.specs.type_definitions.Types.{Table, is_owning}
+use Rattle.machine.specs.flow_paths.Objects.{Typing, object_at, is_package_object}
 use Rattle.machine.specs.Words as machine
 use Rattle.machine.specs.Memory.{Slot, Memory, fresh, variable_slots, cell, no_slot}
 use Rattle.machine.specs.States.{Waiting, Leak}

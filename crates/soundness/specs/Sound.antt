@@ -1,22 +1,22 @@
 -- What an accepted program is, the frames of its runs, and what is to be proved of runs.
 use Rattle.std.specs.Prelude.{◌≡◌, ◌⊎◌, ◌<◌, ℕ, Bool, true, false, not, ◌&&◌, List, [], ◌∷◌, ◌++◌, filter, length, get_or, Option, Some, None}
 use Rattle.std.specs.List.{list_any}
-use Rattle.spark_base.specs.Lists.{Has}
-use Rattle.place_names.specs.declared.fact.Fact.{Fact}
-use Rattle.type_definitions.specs.Entries.{boolean}
-use Rattle.type_definitions.specs.Types.{Table, full, is_scalar}
-use Rattle.typed_tree.specs.Trees.{TypedTree, Name, Component, Designated, Element, More}
-use Rattle.typed_tree.specs.Programs.{TypedProgram}
-use Rattle.flow_paths.specs.declared.report.Effects.{Effects}
-use Rattle.flow_paths.specs.Instructions.{Instruction, Declare, Assign, Call, Output, Input, Release, Test, Choose, Start, Evaluate, LeaveLoop, Hold}
-use Rattle.flow_paths.specs.Objects.{Typing, object_at, sub_at}
-use Rattle.flow_paths.specs.Names.{has_call}
-use Rattle.flow_paths.specs.Points.{NamedPoint, FlowPoint}
-use Rattle.flow_paths.specs.Laid.{FlowSub, FlowProgram, NamedSub, flow_typing, flow_program, flow_named}
-use Rattle.flow_paths.specs.Paths.{facts_before}
-use Rattle.flow_paths.specs.Effects.{path_points, read_by, written_by, AreEffects}
-use Rattle.flow_paths.specs.Reports.{AreReports}
-use Rattle.flow_paths.specs.Scopes.{is_within, is_temporary}
+use Rattle.machine.specs.spark_base.Lists.{Has}
+use Rattle.machine.specs.place_names.declared.fact.Fact.{Fact}
+use Rattle.machine.specs.type_definitions.Entries.{boolean}
+use Rattle.machine.specs.type_definitions.Types.{Table, full, is_scalar}
+use Rattle.machine.specs.typed_tree.Trees.{TypedTree, Name, Component, Designated, Element, More}
+use Rattle.machine.specs.typed_tree.Programs.{TypedProgram}
+use Rattle.machine.specs.flow_paths.declared.report.Effects.{Effects}
+use Rattle.machine.specs.flow_paths.Instructions.{Instruction, Declare, Assign, Call, Output, Input, Release, Test, Choose, Start, Evaluate, LeaveLoop, Hold}
+use Rattle.machine.specs.flow_paths.Objects.{Typing, object_at, sub_at}
+use Rattle.machine.specs.flow_paths.Names.{has_call}
+use Rattle.machine.specs.flow_paths.Points.{NamedPoint, FlowPoint}
+use Rattle.machine.specs.flow_paths.Laid.{FlowSub, FlowProgram, NamedSub, flow_typing, flow_program, flow_named}
+use Rattle.machine.specs.flow_paths.Paths.{facts_before}
+use Rattle.machine.specs.flow_paths.Effects.{path_points, read_by, written_by, AreEffects}
+use Rattle.machine.specs.flow_paths.Reports.{AreReports}
+use Rattle.machine.specs.flow_paths.Scopes.{is_within, is_temporary}
 use Rattle.machine.specs.Memory.{Memory}
 use Rattle.machine.specs.States.{Waiting, Return, Frame, State, Ending, Trapped, Outcome, Goes, Ends, sub_of}
 use Rattle.machine.specs.Typed.{successors}

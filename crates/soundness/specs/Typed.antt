@@ -1,8 +1,8 @@
 -- What a memory keeps, and where a place of the machine stands.
 use Rattle.std.specs.Prelude.{◌≡◌, ℕ, ◌≤◌, Bool, true, List, length, get_or}
-use Rattle.type_definitions.specs.declared.table.Shape.TheVariants as shape
-use Rattle.type_definitions.specs.Types.{Table, shape_of, words, full, is_scalar, is_owning, owns_of}
-use Rattle.flow_paths.specs.Objects.{Typing, object_at}
+use Rattle.machine.specs.type_definitions.declared.table.Shape.TheVariants as shape
+use Rattle.machine.specs.type_definitions.Types.{Table, shape_of, words, full, is_scalar, is_owning, owns_of}
+use Rattle.machine.specs.flow_paths.Objects.{Typing, object_at}
 use Rattle.machine.specs.Words as machine
 use Rattle.machine.specs.Memory.{Memory, Base, OfVariable, OfCell, Place, variable_slots, cell, no_slot}
 use Rattle.machine.specs.States.{Waiting}

@@ -1,19 +1,19 @@
 -- Where what is passed for actuals is laid out, and what the acts of the call do there.
 use Rattle.std.proofs.Common.{◌≡◌, refl, ◌&&◌, sym, ap, ◌∙◌, subst, inl, inr, ℕ, Bool, true, false, List, [], ◌∷◌, ◌++◌, Option, Some, None}
 use Rattle.std.proofs.lemmas.Bool.{false≢true}
-use Rattle.spark_base.proofs.Lists.{Has-append_left, Has-append_right}
-use Rattle.spark_base.specs.declared.position.Pos.{Pos}
-use Rattle.place_names.specs.declared.act.Act.TheVariants as act
-use Rattle.place_names.specs.declared.act.Mode.{Mode}
-use Rattle.place_names.specs.declared.act.Mode.TheVariants as mode
-use Rattle.place_names.specs.declared.act.Placed.{Placed}
-use Rattle.place_names.specs.declared.fact.Fact.{Fact}
-use Rattle.place_names.specs.Facts.{adds, effect}
-use Rattle.type_definitions.specs.Types.{full, is_scalar, is_owning}
-use Rattle.typed_tree.specs.Trees.{TypedTree, Name, More}
-use Rattle.flow_paths.specs.Objects.{object_at, is_named_access, view_of, Passing, passing_by}
-use Rattle.flow_paths.specs.Names.{Written, written, name_of}
-use Rattle.flow_paths.specs.Acts.{naming, actual_act, actual_acts}
+use Rattle.soundness.proofs.Lists.{Has-append_left, Has-append_right}
+use Rattle.machine.specs.spark_base.declared.position.Pos.{Pos}
+use Rattle.machine.specs.place_names.declared.act.Act.TheVariants as act
+use Rattle.machine.specs.place_names.declared.act.Mode.{Mode}
+use Rattle.machine.specs.place_names.declared.act.Mode.TheVariants as mode
+use Rattle.machine.specs.place_names.declared.act.Placed.{Placed}
+use Rattle.machine.specs.place_names.declared.fact.Fact.{Fact}
+use Rattle.machine.specs.place_names.Facts.{adds, effect}
+use Rattle.machine.specs.type_definitions.Types.{full, is_scalar, is_owning}
+use Rattle.machine.specs.typed_tree.Trees.{TypedTree, Name, More}
+use Rattle.machine.specs.flow_paths.Objects.{object_at, is_named_access, view_of, Passing, passing_by}
+use Rattle.machine.specs.flow_paths.Names.{Written, written, name_of}
+use Rattle.machine.specs.flow_paths.Acts.{naming, actual_act, actual_acts}
 use Rattle.machine.specs.Words.{access_offsets, fits_type}
 use Rattle.machine.specs.Words as machine
 use Rattle.machine.specs.Memory.{Memory, Place}
@@ -47,8 +47,8 @@ use Rattle.viewed_steps.proofs.Entered.{own_named, own_number, own_itself, own_p
 use Rattle.soundness.proofs.OwnedLoans.Moves.{IsPlace, expand_under}
 use Rattle.soundness.proofs.OwnedWays.Assigned.{is_false, kept_fact}
 use Rattle.soundness.proofs.OwnedWays.Named.{covered_under, longer}
-use Rattle.place_names.specs.Names.{Name as PlaceName, covers}
-use Rattle.place_names.specs.declared.fact.Fact.TheVariants.{Moved}
+use Rattle.machine.specs.place_names.Names.{Name as PlaceName, covers}
+use Rattle.machine.specs.place_names.declared.fact.Fact.TheVariants.{Moved}
 use Rattle.viewed_steps.proofs.Released.{ends_there}
 use Rattle.viewed_steps.proofs.Constructors.{is_empty_word}
 

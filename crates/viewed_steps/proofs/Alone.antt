@@ -1,30 +1,30 @@
 -- What a function gave is taken alone: an object is declared with it, or it is assigned or returned. It may own.
-use Rattle.flow_paths.specs.Views.{sub_acts}
-use Rattle.place_names.specs.Facts.{effect}
+use Rattle.machine.specs.flow_paths.Views.{sub_acts}
+use Rattle.machine.specs.place_names.Facts.{effect}
 use Rattle.soundness.proofs.Fading.{FadesTo}
 use Rattle.soundness.proofs.ViewedSoundness.Stored.{Assigns, then_placed}
 use Rattle.viewed_steps.specs.Traversals.{IsSourceIn}
 use Rattle.machine.specs.Calls.{checks_at}
-use Rattle.spark_base.specs.declared.position.Pos.{Pos}
+use Rattle.machine.specs.spark_base.declared.position.Pos.{Pos}
 use Rattle.soundness.proofs.ViewedSoundness.ViewKinds.{plain_named, true_false}
 use Rattle.std.proofs.Common.{◌≡◌, refl, sym, ap, ◌∙◌, subst, inl, inr, ℕ, suc, ◌+◌, Bool, true, false, List, [], ◌∷◌, ◌++◌, drop, length, arith, Some, if◌then◌else◌, take, map}
-use Rattle.spark_base.specs.Lists.{Has}
-use Rattle.place_names.specs.declared.act.Act.{Act}
-use Rattle.place_names.specs.declared.act.Act.TheVariants as act
-use Rattle.place_names.specs.declared.fact.Fact.{Fact}
-use Rattle.place_names.specs.declared.fact.Fact.TheVariants.{Moved}
-use Rattle.place_names.specs.Names.{Name as PlaceName}
-use Rattle.type_definitions.specs.Types.{Table, full}
-use Rattle.typed_tree.specs.Trees.{TypedTree, NoMore, More, Name, Call as CallIn}
-use Rattle.typed_tree.specs.Programs.{TypedProgram}
-use Rattle.flow_paths.specs.declared.report.Effects.{Effects}
-use Rattle.flow_paths.specs.Instructions.{Instruction, EndScope, Finish, Declare, Assign}
-use Rattle.flow_paths.specs.Objects.{Typing, is_anonymous, is_package_object, is_observer, view_of, object_at}
-use Rattle.flow_paths.specs.Names.{has_call, waiting as waits_in, name_of}
-use Rattle.flow_paths.specs.Acts as flow
-use Rattle.flow_paths.specs.Acts.{acts_in}
-use Rattle.flow_paths.specs.Laid.{FlowProgram, typing_of, flow_typing, flow_program, number_in}
-use Rattle.flow_paths.specs.Scopes.{taken, scope_behind}
+use Rattle.machine.specs.spark_base.Lists.{Has}
+use Rattle.machine.specs.place_names.declared.act.Act.{Act}
+use Rattle.machine.specs.place_names.declared.act.Act.TheVariants as act
+use Rattle.machine.specs.place_names.declared.fact.Fact.{Fact}
+use Rattle.machine.specs.place_names.declared.fact.Fact.TheVariants.{Moved}
+use Rattle.machine.specs.place_names.Names.{Name as PlaceName}
+use Rattle.machine.specs.type_definitions.Types.{Table, full}
+use Rattle.machine.specs.typed_tree.Trees.{TypedTree, NoMore, More, Name, Call as CallIn}
+use Rattle.machine.specs.typed_tree.Programs.{TypedProgram}
+use Rattle.machine.specs.flow_paths.declared.report.Effects.{Effects}
+use Rattle.machine.specs.flow_paths.Instructions.{Instruction, EndScope, Finish, Declare, Assign}
+use Rattle.machine.specs.flow_paths.Objects.{Typing, is_anonymous, is_package_object, is_observer, view_of, object_at}
+use Rattle.machine.specs.flow_paths.Names.{has_call, waiting as waits_in, name_of}
+use Rattle.machine.specs.flow_paths.Acts as flow
+use Rattle.machine.specs.flow_paths.Acts.{acts_in}
+use Rattle.machine.specs.flow_paths.Laid.{FlowProgram, typing_of, flow_typing, flow_program, number_in}
+use Rattle.machine.specs.flow_paths.Scopes.{taken, scope_behind}
 use Rattle.machine.specs.Words as machine
 use Rattle.machine.specs.Memory.{declared, stored}
 use Rattle.machine.specs.Evaluate.{Evaluated, Done, followed_by, value, place_of, Now, checked, initial}
@@ -58,7 +58,7 @@ use Rattle.viewed_steps.proofs.Packages as packages
 use Rattle.viewed_steps.proofs.Innermost as innermost
 use Rattle.std.specs.Prelude.{flat_map, reverse}
 use Rattle.std.proofs.lemmas.Bool.{true≢false}
-use Rattle.type_definitions.specs.Types.{words}
+use Rattle.machine.specs.type_definitions.Types.{words}
 use Rattle.machine.specs.Evaluate.{Raises, Traps}
 use Rattle.soundness.specs.Ready.{IsSupplied}
 use Rattle.soundness.proofs.Numbers.{index_law}

@@ -6,11 +6,11 @@ use Rattle.soundness.specs.ViewedSoundness.Holds.{is_view}
 use Rattle.std.proofs.Common.{◌≡◌, refl, sym, ap, ◌∙◌, subst, ◌⊎◌, inl, inr, ℕ, suc, ◌+◌, Bool, true, false, not, List, [], ◌∷◌, ◌++◌, take, drop, length, get_or, arith, append-nil, if◌then◌else◌, Some}
 use Rattle.std.proofs.lemmas.List.{length-map}
 use Rattle.std.proofs.lemmas.Bool.{false≢true}
-use Rattle.spark_base.specs.Lists.{Has}
-use Rattle.place_names.specs.declared.fact.Fact.{Fact}
-use Rattle.type_definitions.specs.Types.{words, full, is_scalar, is_owning}
-use Rattle.flow_paths.specs.Objects.{Typing, object_at, is_package_object}
-use Rattle.flow_paths.specs.Scopes.{is_within}
+use Rattle.machine.specs.spark_base.Lists.{Has}
+use Rattle.machine.specs.place_names.declared.fact.Fact.{Fact}
+use Rattle.machine.specs.type_definitions.Types.{words, full, is_scalar, is_owning}
+use Rattle.machine.specs.flow_paths.Objects.{Typing, object_at, is_package_object}
+use Rattle.machine.specs.flow_paths.Scopes.{is_within}
 use Rattle.machine.specs.Words.{access_offsets, fits_type}
 use Rattle.machine.specs.Words as machine
 use Rattle.machine.specs.Memory.{Slot, Memory, Place, cell, fresh, no_slot, variable_slots, slots_at, slots_of, words_of, gone_at, moved_out, stored}

@@ -1,9 +1,9 @@
 -- No number stands in what was taken, however its way is put.
 use Rattle.std.proofs.Common.{◌≡◌, refl, sym, ap, ◌∙◌, subst, inl, inr, ℕ, ◌≤◌, arith, List, [], ◌∷◌, ◌++◌, Bool}
 use Rattle.std.proofs.lemmas.Bool.{false≢true}
-use Rattle.spark_base.specs.Lists.{Has}
-use Rattle.place_names.specs.declared.fact.Fact.{Fact}
-use Rattle.flow_paths.specs.Objects.{Typing}
+use Rattle.machine.specs.spark_base.Lists.{Has}
+use Rattle.machine.specs.place_names.declared.fact.Fact.{Fact}
+use Rattle.machine.specs.flow_paths.Objects.{Typing}
 use Rattle.machine.specs.Memory.{Memory, Place}
 use Rattle.machine.specs.States.{Return}
 use Rattle.soundness.specs.OwnedWays.Ways.{Step, Loc, OfCell, Way, Object, Lost, Into, All, Held, View, Reaches, Past, along}
@@ -14,7 +14,7 @@ use Rattle.viewed_steps.specs.Taken.{Lodge, IsInside, IsAmong, AreTaken}
 use Rattle.viewed_steps.proofs.Carried.{start_reached, start_steps}
 use Rattle.soundness.specs.OwnedLoans.Views.{Views}
 use Rattle.viewed_steps.proofs.Constructors.{is_into_way}
-use Rattle.type_definitions.specs.Types.{is_nil}
+use Rattle.machine.specs.type_definitions.Types.{is_nil}
 
 -- A way to a variable or a cell as a whole.
 abbrev pub IsTop : View → Way → Loc → Type 0

@@ -8,17 +8,17 @@ use Rattle.soundness.specs.Sound.{IsNamedSub, IsAtPoint}
 use Rattle.std.proofs.Common.{◌≡◌, refl, sym, ap, ◌∙◌, subst, inl, inr, ℕ, List, [], ◌∷◌, ◌++◌, Option, Some, Bool}
 use Rattle.std.proofs.lemmas.Bool.{false≢true}
 use Rattle.std.specs.Prelude.{is_some}
-use Rattle.spark_base.specs.Lists.{Has}
-use Rattle.place_names.specs.declared.act.Mode.TheVariants as mode
-use Rattle.typed_tree.specs.Trees.{TypedTree, NoMore, More}
-use Rattle.typed_tree.specs.Programs.{TypedProgram}
-use Rattle.type_definitions.specs.Types.{Table}
-use Rattle.flow_paths.specs.Laid.{NamedSub, flow_program, flow_named, flow_typing}
-use Rattle.flow_paths.specs.Instructions.{Instruction}
-use Rattle.flow_paths.specs.Names.{has_call}
-use Rattle.flow_paths.specs.Objects.{Typing, object_at}
-use Rattle.flow_paths.specs.Points.{NamedPoint}
-use Rattle.flow_paths.specs.Views.{traversed_formal, sub_acts}
+use Rattle.machine.specs.spark_base.Lists.{Has}
+use Rattle.machine.specs.place_names.declared.act.Mode.TheVariants as mode
+use Rattle.machine.specs.typed_tree.Trees.{TypedTree, NoMore, More}
+use Rattle.machine.specs.typed_tree.Programs.{TypedProgram}
+use Rattle.machine.specs.type_definitions.Types.{Table}
+use Rattle.machine.specs.flow_paths.Laid.{NamedSub, flow_program, flow_named, flow_typing}
+use Rattle.machine.specs.flow_paths.Instructions.{Instruction}
+use Rattle.machine.specs.flow_paths.Names.{has_call}
+use Rattle.machine.specs.flow_paths.Objects.{Typing, object_at}
+use Rattle.machine.specs.flow_paths.Points.{NamedPoint}
+use Rattle.machine.specs.flow_paths.Views.{traversed_formal, sub_acts}
 use Rattle.machine.specs.Calls.{Passed, Value, From, To, return_of, returns_of}
 use Rattle.machine.specs.Memory.{Memory}
 use Rattle.machine.specs.States.{sub_of}

@@ -1,8 +1,8 @@
 -- A move that a call makes, or its end: no fact changes, and what is gone after it is known otherwise.
 use Rattle.std.proofs.Common.{◌≡◌, refl, sym, ap, ◌∙◌, subst, ◌⊎◌, inl, inr, ℕ, suc, ◌<◌, Bool, true, false, List, [], ◌∷◌, arith, if◌then◌else◌}
-use Rattle.spark_base.specs.Lists.{Has}
-use Rattle.place_names.specs.declared.fact.Fact.{Fact}
-use Rattle.place_names.specs.declared.fact.Fact.TheVariants.{Lent, Moved}
+use Rattle.machine.specs.spark_base.Lists.{Has}
+use Rattle.machine.specs.place_names.declared.fact.Fact.{Fact}
+use Rattle.machine.specs.place_names.declared.fact.Fact.TheVariants.{Lent, Moved}
 use Rattle.soundness.specs.OwnedWays.Ways.{Step, OfVariable, OfHand, Loc, OfRoot, OfCell, Way, Object, Lost, Into, All, Gone, View, Reaches, IsSame, part, along, IsRooted, Under, Named, base_of, number_of, Owned, Covered, Known, Sound}
 use Rattle.soundness.proofs.OwnedWays.Locations.{under_along, under_itself}
 use Rattle.soundness.proofs.OwnedWays.Named.{longer}
@@ -10,7 +10,7 @@ use Rattle.soundness.proofs.OwnedWays.Moving.{Given, owned_after, covered_after,
 use Rattle.soundness.proofs.OwnedWays.Dropped.{named_base}
 use Rattle.soundness.specs.OwnedLoans.Views.{Views, IsMovedBy}
 use Rattle.soundness.proofs.OwnedLoans.Ways.{beginnings}
-use Rattle.flow_paths.specs.Objects.{Typing, is_package_object}
+use Rattle.machine.specs.flow_paths.Objects.{Typing, is_package_object}
 use Rattle.machine.specs.Memory.{Memory, Place}
 use Rattle.machine.specs.States.{Return}
 use Rattle.soundness.specs.Seen.{IsNear, content, word_in, home}

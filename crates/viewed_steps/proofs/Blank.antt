@@ -1,9 +1,9 @@
 -- A value of an anonymous access type that waits. Owners don't see it.
 use Rattle.std.proofs.Common.{◌≡◌, refl, sym, ap, ◌∙◌, ℕ, Bool, true, List, [], ◌∷◌, get_or}
-use Rattle.place_names.specs.declared.fact.Fact.{Fact}
-use Rattle.type_definitions.specs.declared.table.Shape.TheVariants as shape
-use Rattle.type_definitions.specs.Types.{shape_of, full}
-use Rattle.flow_paths.specs.Objects.{Typing, is_anonymous}
+use Rattle.machine.specs.place_names.declared.fact.Fact.{Fact}
+use Rattle.machine.specs.type_definitions.declared.table.Shape.TheVariants as shape
+use Rattle.machine.specs.type_definitions.Types.{shape_of, full}
+use Rattle.machine.specs.flow_paths.Objects.{Typing, is_anonymous}
 use Rattle.machine.specs.Words as machine
 use Rattle.machine.specs.Memory.{Memory, fresh, no_slot}
 use Rattle.machine.specs.States.{Waiting, Leak}

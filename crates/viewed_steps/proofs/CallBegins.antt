@@ -1,24 +1,24 @@
 -- The state after a call: the caller waits, and what is called begins.
 use Rattle.soundness.specs.PartOffsets.Parts.{offset_in}
-use Rattle.spark_base.proofs.Lists.{Has-append_cases}
+use Rattle.soundness.proofs.Lists.{Has-append_cases}
 use Rattle.std.proofs.Common.{◌≡◌, refl, sym, ap, ◌∙◌, subst, ◌⊎◌, inl, inr, ℕ, suc, ◌<◌, true, false, List, [], ◌∷◌, ◌++◌, take, length, get_or, arith, Option, Some, Bool, flat_map}
-use Rattle.spark_base.specs.Lists.{Has}
-use Rattle.place_names.specs.declared.fact.Fact.{Fact}
-use Rattle.place_names.specs.declared.fact.Fact.TheVariants.{Moved, Lent}
-use Rattle.place_names.specs.declared.rule.Loan.{Loan}
-use Rattle.place_names.specs.Names.{Name as PlaceName, object}
-use Rattle.type_definitions.specs.Types.{Table}
-use Rattle.typed_tree.specs.Trees.{TypedTree}
-use Rattle.typed_tree.specs.Programs.{TypedProgram}
-use Rattle.flow_paths.specs.declared.report.Effects.{Effects}
-use Rattle.flow_paths.specs.Instructions.{Call}
-use Rattle.flow_paths.specs.Objects.{Typing, object_at, is_package_object, Signature}
-use Rattle.flow_paths.specs.Aliases as alias
-use Rattle.flow_paths.specs.Points.{NamedPoint}
-use Rattle.flow_paths.specs.Laid.{FlowSub, FlowProgram, flow_sub, typing_of, flow_typing, flow_program}
-use Rattle.flow_paths.specs.Paths.{PathPoint, ControlPath, goes_on, facts_before}
-use Rattle.flow_paths.specs.Effects.{flow_sub_at, path_points}
-use Rattle.flow_paths.specs.Scopes.{taken, scope_behind, Leads}
+use Rattle.machine.specs.spark_base.Lists.{Has}
+use Rattle.machine.specs.place_names.declared.fact.Fact.{Fact}
+use Rattle.machine.specs.place_names.declared.fact.Fact.TheVariants.{Moved, Lent}
+use Rattle.machine.specs.place_names.declared.rule.Loan.{Loan}
+use Rattle.machine.specs.place_names.Names.{Name as PlaceName, object}
+use Rattle.machine.specs.type_definitions.Types.{Table}
+use Rattle.machine.specs.typed_tree.Trees.{TypedTree}
+use Rattle.machine.specs.typed_tree.Programs.{TypedProgram}
+use Rattle.machine.specs.flow_paths.declared.report.Effects.{Effects}
+use Rattle.machine.specs.flow_paths.Instructions.{Call}
+use Rattle.machine.specs.flow_paths.Objects.{Typing, object_at, is_package_object, Signature}
+use Rattle.machine.specs.flow_paths.Aliases as alias
+use Rattle.machine.specs.flow_paths.Points.{NamedPoint}
+use Rattle.machine.specs.flow_paths.Laid.{FlowSub, FlowProgram, flow_sub, typing_of, flow_typing, flow_program}
+use Rattle.machine.specs.flow_paths.Paths.{PathPoint, ControlPath, goes_on, facts_before}
+use Rattle.machine.specs.flow_paths.Effects.{flow_sub_at, path_points}
+use Rattle.machine.specs.flow_paths.Scopes.{taken, scope_behind, Leads}
 use Rattle.machine.specs.Words as machine
 use Rattle.machine.specs.Memory.{Memory, no_slot, variable_slots}
 use Rattle.machine.specs.States.{Frame, State, Leak, sub_of, frame_at_start}
@@ -51,7 +51,7 @@ use Rattle.viewed_steps.proofs.Waiting.{StandsBetween, kept_low, beside_them, ha
 use Rattle.viewed_steps.proofs.Onward.{all_on}
 use Rattle.viewed_steps.proofs.Between.{OwnersStand, fewer_taken}
 use Rattle.viewed_steps.proofs.Outside.{kept_clear, IsFree}
-use Rattle.flow_paths.specs.Effects.{written_by}
+use Rattle.machine.specs.flow_paths.Effects.{written_by}
 use Rattle.viewed_steps.proofs.LaidOut.{AreLaidOut}
 use Rattle.viewed_steps.proofs.Outs.{Out, found_in}
 use Rattle.viewed_steps.proofs.Entered.{ArePassedOn, IsOpen, AreBlank, not_above}
@@ -70,7 +70,7 @@ use Rattle.viewed_steps.proofs.Bared.{taken_bare}
 use Rattle.viewed_steps.proofs.Withheld.{kept_cases}
 use Rattle.viewed_steps.proofs.Showing.{IsShownOf, none_moved as none_shown}
 use Rattle.std.specs.Prelude.{flat_map}
-use Rattle.place_names.specs.declared.rule.Loan.TheVariants.{Observed}
+use Rattle.machine.specs.place_names.declared.rule.Loan.TheVariants.{Observed}
 use Rattle.viewed_steps.proofs.CallShows as shows
 use Rattle.viewed_steps.proofs.Supplied.{SuppliesAll}
 use Rattle.viewed_steps.specs.Seeing.{sees_in}

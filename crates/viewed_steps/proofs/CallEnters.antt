@@ -1,34 +1,34 @@
 -- What is called sees, and the state where its frame has begun is sound.
 use Rattle.soundness.proofs.OwnedLoans.Meeting.{no_part}
-use Rattle.flow_paths.specs.Views.{sub_acts}
+use Rattle.machine.specs.flow_paths.Views.{sub_acts}
 use Rattle.viewed_steps.specs.Traversals.{SeesFirst}
 use Rattle.soundness.proofs.OwnedWays.Dropped.{named_base}
 use Rattle.viewed_steps.proofs.Begun.{begins_traversal, no_returns, taker_takes}
 use Rattle.viewed_steps.proofs.CallActs as acting
 use Rattle.viewed_steps.proofs.Followed as followed
 use Rattle.viewed_steps.proofs.Traversed.{none_given, empty_given, named_given}
-use Rattle.typed_tree.specs.declared.object.ObjectKind.{ObjectKind}
-use Rattle.typed_tree.specs.declared.object.ObjectKind.TheVariants as object_kind
-use Rattle.spark_base.proofs.Lists.{Has-append_left}
+use Rattle.machine.specs.typed_tree.declared.object.ObjectKind.{ObjectKind}
+use Rattle.machine.specs.typed_tree.declared.object.ObjectKind.TheVariants as object_kind
+use Rattle.soundness.proofs.Lists.{Has-append_left}
 use Rattle.std.proofs.Common.{◌≡◌, refl, sym, ap, ◌∙◌, subst, ◌⊎◌, inl, inr, ℕ, suc, true, false, List, [], ◌∷◌, ◌++◌, take, drop, length, get_or, arith, Option, Some, None, Bool, ◌||◌}
 use Rattle.std.proofs.lemmas.Bool.{false≢true}
-use Rattle.spark_base.specs.Lists.{Has}
-use Rattle.place_names.specs.declared.fact.Fact.{Fact}
-use Rattle.place_names.specs.declared.fact.Fact.TheVariants.{Moved, Lent}
-use Rattle.place_names.specs.Names.{Name as PlaceName}
-use Rattle.place_names.specs.declared.act.Mode.TheVariants as mode
-use Rattle.type_definitions.specs.Types.{Table}
-use Rattle.typed_tree.specs.Trees.{TypedTree}
-use Rattle.typed_tree.specs.Programs.{TypedProgram}
-use Rattle.flow_paths.specs.declared.report.Effects.{Effects}
-use Rattle.flow_paths.specs.Instructions.{Call, EndScope, Finish}
-use Rattle.flow_paths.specs.Objects.{Typing, object_at, is_anonymous, is_package_object, view_of, Passing, is_formal_kind}
-use Rattle.flow_paths.specs.Aliases as alias
-use Rattle.flow_paths.specs.Points.{NamedPoint}
-use Rattle.flow_paths.specs.Laid.{FlowProgram, NamedSub, flow_sub, typing_of, flow_typing, flow_program, flow_named}
-use Rattle.flow_paths.specs.Paths.{is_some_point, begins, facts_before}
-use Rattle.flow_paths.specs.Effects.{path_points}
-use Rattle.flow_paths.specs.Scopes.{taken, scope_behind, Leads, is_temporary}
+use Rattle.machine.specs.spark_base.Lists.{Has}
+use Rattle.machine.specs.place_names.declared.fact.Fact.{Fact}
+use Rattle.machine.specs.place_names.declared.fact.Fact.TheVariants.{Moved, Lent}
+use Rattle.machine.specs.place_names.Names.{Name as PlaceName}
+use Rattle.machine.specs.place_names.declared.act.Mode.TheVariants as mode
+use Rattle.machine.specs.type_definitions.Types.{Table}
+use Rattle.machine.specs.typed_tree.Trees.{TypedTree}
+use Rattle.machine.specs.typed_tree.Programs.{TypedProgram}
+use Rattle.machine.specs.flow_paths.declared.report.Effects.{Effects}
+use Rattle.machine.specs.flow_paths.Instructions.{Call, EndScope, Finish}
+use Rattle.machine.specs.flow_paths.Objects.{Typing, object_at, is_anonymous, is_package_object, view_of, Passing, is_formal_kind}
+use Rattle.machine.specs.flow_paths.Aliases as alias
+use Rattle.machine.specs.flow_paths.Points.{NamedPoint}
+use Rattle.machine.specs.flow_paths.Laid.{FlowProgram, NamedSub, flow_sub, typing_of, flow_typing, flow_program, flow_named}
+use Rattle.machine.specs.flow_paths.Paths.{is_some_point, begins, facts_before}
+use Rattle.machine.specs.flow_paths.Effects.{path_points}
+use Rattle.machine.specs.flow_paths.Scopes.{taken, scope_behind, Leads, is_temporary}
 use Rattle.machine.specs.Words as machine
 use Rattle.machine.specs.Memory.{Memory, no_slot, variable_slots}
 use Rattle.machine.specs.Evaluate.{Now, Exception}
@@ -37,7 +37,7 @@ use Rattle.machine.specs.Step.{Turn, turn, start, successor}
 use Rattle.machine.specs.Step as steps
 use Rattle.machine.specs.Calls.{Passed, all_passed, with_formals, returns_of, out_checks}
 use Rattle.machine.specs.Owners.{waiting_in}
-use Rattle.place_names.specs.declared.act.Mode.TheVariants as mode
+use Rattle.machine.specs.place_names.declared.act.Mode.TheVariants as mode
 use Rattle.soundness.specs.OwnedWays.Ways.{Step, Way, Past}
 use Rattle.soundness.specs.OwnedWays.Ways as ways
 use Rattle.soundness.proofs.OwnedWays.Locations.{past_under, under_along, under_itself}
@@ -78,14 +78,14 @@ use Rattle.viewed_steps.proofs.SeenApart.{seen_apart}
 use Rattle.viewed_steps.proofs.Passed.{apart_there}
 use Rattle.soundness.proofs.Passing.{signature_is}
 use Rattle.machine.specs.Owners.{is_in}
-use Rattle.place_names.specs.Names.{overlaps}
-use Rattle.place_names.specs.declared.rule.Loan.TheVariants.{Borrowed}
+use Rattle.machine.specs.place_names.Names.{overlaps}
+use Rattle.machine.specs.place_names.declared.rule.Loan.TheVariants.{Borrowed}
 use Rattle.soundness.proofs.OwnedLoans.Safe.{Unborrowed}
-use Rattle.flow_paths.specs.Objects.{Signature, is_formal}
+use Rattle.machine.specs.flow_paths.Objects.{Signature, is_formal}
 use Rattle.viewed_steps.proofs.Lending.{IsNameOf, apart_listed}
 use Rattle.viewed_steps.proofs.CallShows.{clear_named}
 use Rattle.soundness.proofs.ViewedSoundness.ViewKinds.{sees_view}
-use Rattle.flow_paths.specs.Names.{Written}
+use Rattle.machine.specs.flow_paths.Names.{Written}
 use Rattle.viewed_steps.proofs.Opening.{opened_first, opened_rooted, Opens, all_opened, low_of, low_part, opened_seen, opened_part, opened_from, opened_views, opened_whole, opened_parts, opened_parts_whole, opened_parts_low, opened_lies, opened_held, opened_placed}
 use Rattle.viewed_steps.proofs.Calling as calling
 use Rattle.viewed_steps.proofs.Handed.{elsewhere_excused}

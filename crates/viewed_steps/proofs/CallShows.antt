@@ -1,26 +1,26 @@
 -- What a call shows of package objects to formals that own nothing: what is called doesn't disturb it, nothing
 -- that is known as moved or borrowed meets what is observed, and it is named by the frame that calls.
 use Rattle.std.proofs.Common.{◌≡◌, refl, sym, ap, ◌∙◌, subst, ◌⊎◌, inl, inr, ℕ, suc, ◌<◌, true, false, List, [], ◌∷◌, ◌++◌, length, arith, Option, Some, None, Bool}
-use Rattle.spark_base.specs.Lists.{Has}
-use Rattle.place_names.specs.declared.act.Act.TheVariants as act
-use Rattle.place_names.specs.declared.fact.Fact.{Fact}
-use Rattle.place_names.specs.declared.fact.Fact.TheVariants.{Moved, Lent}
-use Rattle.place_names.specs.declared.rule.Loan.{Loan}
-use Rattle.place_names.specs.declared.rule.Loan.TheVariants.{Observed}
-use Rattle.place_names.specs.Names.{Name as PlaceName, overlaps, object}
-use Rattle.place_names.specs.declared.act.Mode.TheVariants as mode
-use Rattle.type_definitions.specs.Types.{Table}
-use Rattle.typed_tree.specs.Trees.{TypedTree, More}
-use Rattle.typed_tree.specs.Programs.{TypedProgram}
-use Rattle.flow_paths.specs.declared.report.Effects.{Effects}
-use Rattle.flow_paths.specs.Instructions.{Call}
-use Rattle.flow_paths.specs.Objects.{Typing, object_at, is_package_object, view_of}
-use Rattle.flow_paths.specs.Aliases as alias
-use Rattle.flow_paths.specs.Laid.{FlowProgram, flow_sub, typing_of, flow_typing, flow_program}
+use Rattle.machine.specs.spark_base.Lists.{Has}
+use Rattle.machine.specs.place_names.declared.act.Act.TheVariants as act
+use Rattle.machine.specs.place_names.declared.fact.Fact.{Fact}
+use Rattle.machine.specs.place_names.declared.fact.Fact.TheVariants.{Moved, Lent}
+use Rattle.machine.specs.place_names.declared.rule.Loan.{Loan}
+use Rattle.machine.specs.place_names.declared.rule.Loan.TheVariants.{Observed}
+use Rattle.machine.specs.place_names.Names.{Name as PlaceName, overlaps, object}
+use Rattle.machine.specs.place_names.declared.act.Mode.TheVariants as mode
+use Rattle.machine.specs.type_definitions.Types.{Table}
+use Rattle.machine.specs.typed_tree.Trees.{TypedTree, More}
+use Rattle.machine.specs.typed_tree.Programs.{TypedProgram}
+use Rattle.machine.specs.flow_paths.declared.report.Effects.{Effects}
+use Rattle.machine.specs.flow_paths.Instructions.{Call}
+use Rattle.machine.specs.flow_paths.Objects.{Typing, object_at, is_package_object, view_of}
+use Rattle.machine.specs.flow_paths.Aliases as alias
+use Rattle.machine.specs.flow_paths.Laid.{FlowProgram, flow_sub, typing_of, flow_typing, flow_program}
 use Rattle.machine.specs.States.{Frame, sub_of}
 use Rattle.machine.specs.Step.{Turn}
 use Rattle.machine.specs.Calls.{Passed}
-use Rattle.place_names.specs.declared.act.Mode.TheVariants as mode
+use Rattle.machine.specs.place_names.declared.act.Mode.TheVariants as mode
 use Rattle.soundness.specs.OwnedWays.Ways.{Step, Way}
 use Rattle.soundness.specs.OwnedWays.Ways as ways
 use Rattle.soundness.specs.Seen.{is_view_formal, seen, home}
@@ -37,7 +37,7 @@ use Rattle.viewed_steps.specs.Sound.{ViewStage, Disturbs, passed_roots, LentBy, 
 use Rattle.viewed_steps.specs.Ready.{IsReady, IsCalled}
 use Rattle.viewed_steps.proofs.Lent.{loans_stay}
 use Rattle.viewed_steps.proofs.Waiting.{StandsBetween, handed, root_under}
-use Rattle.flow_paths.specs.Effects.{written_by}
+use Rattle.machine.specs.flow_paths.Effects.{written_by}
 use Rattle.viewed_steps.proofs.Standing as standing
 use Rattle.viewed_steps.proofs.Packages as packages
 use Rattle.viewed_steps.proofs.Innermost as innermost
@@ -51,17 +51,17 @@ use Rattle.viewed_steps.proofs.Withheld.{kept_fact, kept_root}
 use Rattle.std.specs.Prelude.{flat_map, is_some}
 use Rattle.std.proofs.Common.{not, ◌&&◌, eq-eqb, if◌then◌else◌}
 use Rattle.std.proofs.lemmas.Bool.{false≢true}
-use Rattle.spark_base.proofs.Lists.{Has-append_left, Has-append_cases, Has-append_right}
-use Rattle.place_names.specs.declared.rule.Loan.TheVariants.{Borrowed}
-use Rattle.place_names.specs.Facts.{place}
-use Rattle.place_names.proofs.Names.{overlaps-sym}
-use Rattle.type_definitions.specs.declared.judgement.View.{View as TypeView}
-use Rattle.type_definitions.specs.declared.judgement.View.TheVariants as view
-use Rattle.typed_tree.specs.Trees.{Name}
-use Rattle.flow_paths.specs.Objects.{sub_at, Signature, is_named_access, is_variable_access}
-use Rattle.flow_paths.specs.Names.{written}
-use Rattle.flow_paths.specs.Views.{is_in_mode}
-use Rattle.flow_paths.specs.Effects.{act_writes, act_reads}
+use Rattle.soundness.proofs.Lists.{Has-append_left, Has-append_cases, Has-append_right}
+use Rattle.machine.specs.place_names.declared.rule.Loan.TheVariants.{Borrowed}
+use Rattle.machine.specs.place_names.Facts.{place}
+use Rattle.soundness.proofs.PlaceNames.{overlaps-sym}
+use Rattle.machine.specs.type_definitions.declared.judgement.View.{View as TypeView}
+use Rattle.machine.specs.type_definitions.declared.judgement.View.TheVariants as view
+use Rattle.machine.specs.typed_tree.Trees.{Name}
+use Rattle.machine.specs.flow_paths.Objects.{sub_at, Signature, is_named_access, is_variable_access}
+use Rattle.machine.specs.flow_paths.Names.{written}
+use Rattle.machine.specs.flow_paths.Views.{is_in_mode}
+use Rattle.machine.specs.flow_paths.Effects.{act_writes, act_reads}
 use Rattle.soundness.proofs.Passing.{signature_is}
 use Rattle.soundness.specs.OwnedLoans.Views.{AreClear as FactsAreClear}
 use Rattle.soundness.proofs.OwnedLoans.Allowed.{Cleared}

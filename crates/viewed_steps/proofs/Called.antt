@@ -2,20 +2,20 @@
 -- variable, or another place in a variable of the caller.
 use Rattle.std.proofs.Common.{◌≡◌, refl, ◌&&◌, ◌||◌, not, is_some, sym, ap, ◌∙◌, subst, ◌⊎◌, inl, inr, ℕ, Bool, true, false, List, [], ◌∷◌, ◌++◌, map, Option, if◌then◌else◌}
 use Rattle.std.proofs.lemmas.Bool.{false≢true}
-use Rattle.spark_base.specs.Lists.{Has}
-use Rattle.spark_base.proofs.Lists.{Has-append_cases}
-use Rattle.place_names.specs.declared.act.Act.TheVariants as act
-use Rattle.place_names.specs.declared.act.Mode.{Mode}
-use Rattle.place_names.specs.declared.act.Mode.TheVariants as mode
-use Rattle.place_names.specs.declared.act.Placed.{Placed}
-use Rattle.place_names.specs.declared.fact.Fact.{Fact}
-use Rattle.type_definitions.specs.Types.{full, is_scalar, is_owning}
-use Rattle.typed_tree.specs.Trees.{TypedTree, Name, More}
-use Rattle.typed_tree.specs.Trees as typed
-use Rattle.flow_paths.specs.Objects.{Typing, object_at, sub_at, is_anonymous, is_named_access, view_of, traverses, first_traversed, Passing, ByValue, passing, passing_by, passings}
-use Rattle.flow_paths.specs.Names.{written, is_empty, waiting as waits_in}
-use Rattle.flow_paths.specs.Laid.{FlowProgram, flow_typing}
-use Rattle.flow_paths.specs.Acts.{acts_in, index_acts, actual_act, actual_acts, actual_values}
+use Rattle.machine.specs.spark_base.Lists.{Has}
+use Rattle.soundness.proofs.Lists.{Has-append_cases}
+use Rattle.machine.specs.place_names.declared.act.Act.TheVariants as act
+use Rattle.machine.specs.place_names.declared.act.Mode.{Mode}
+use Rattle.machine.specs.place_names.declared.act.Mode.TheVariants as mode
+use Rattle.machine.specs.place_names.declared.act.Placed.{Placed}
+use Rattle.machine.specs.place_names.declared.fact.Fact.{Fact}
+use Rattle.machine.specs.type_definitions.Types.{full, is_scalar, is_owning}
+use Rattle.machine.specs.typed_tree.Trees.{TypedTree, Name, More}
+use Rattle.machine.specs.typed_tree.Trees as typed
+use Rattle.machine.specs.flow_paths.Objects.{Typing, object_at, sub_at, is_anonymous, is_named_access, view_of, traverses, first_traversed, Passing, ByValue, passing, passing_by, passings}
+use Rattle.machine.specs.flow_paths.Names.{written, is_empty, waiting as waits_in}
+use Rattle.machine.specs.flow_paths.Laid.{FlowProgram, flow_typing}
+use Rattle.machine.specs.flow_paths.Acts.{acts_in, index_acts, actual_act, actual_acts, actual_values}
 use Rattle.machine.specs.Words as machine
 use Rattle.machine.specs.Memory.{Memory, Place, words_of}
 use Rattle.machine.specs.Evaluate.{Here, Now, Evaluated, Done, Raises, Traps, followed_by, place_of, checked, viewed}

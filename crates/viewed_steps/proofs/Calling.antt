@@ -1,32 +1,32 @@
 -- A call leads on, in the frame of what is called.
 use Rattle.std.proofs.Common.{◌≡◌, refl, sym, ap, ◌∙◌, subst, ◌⊎◌, inl, inr, ℕ, suc, ◌<◌, true, false, ◌==◌, List, [], ◌∷◌, ◌++◌, take, drop, length, arith, Option, Some, None, Bool, ◌||◌}
 use Rattle.std.proofs.lemmas.Bool.{false≢true}
-use Rattle.spark_base.specs.Lists.{Has}
-use Rattle.place_names.specs.declared.act.Act.{Act}
-use Rattle.place_names.specs.declared.act.Act.TheVariants as act
-use Rattle.place_names.specs.declared.act.Placed.{Placed}
-use Rattle.place_names.specs.declared.fact.Fact.{Fact}
-use Rattle.place_names.specs.declared.fact.Fact.TheVariants.{Moved, Lent}
-use Rattle.place_names.specs.declared.rule.Loan.{Loan}
-use Rattle.place_names.specs.declared.rule.Loan.TheVariants.{Observed}
-use Rattle.place_names.specs.Names.{Name as PlaceName, overlaps}
-use Rattle.place_names.specs.declared.act.Mode.TheVariants as mode
-use Rattle.type_definitions.specs.Types.{Table, full, is_scalar, is_owning}
-use Rattle.typed_tree.specs.Trees.{TypedTree, More}
-use Rattle.typed_tree.specs.Programs.{TypedProgram}
-use Rattle.flow_paths.specs.declared.report.Effects.{Effects}
-use Rattle.flow_paths.specs.Instructions.{Call}
-use Rattle.flow_paths.specs.Objects.{Typing, object_at, is_anonymous, is_package_object, view_of, Passing}
-use Rattle.place_names.specs.Reports.{Report}
-use Rattle.flow_paths.specs.Aliases.{overlap_reports}
-use Rattle.flow_paths.specs.Aliases as alias
-use Rattle.flow_paths.specs.Acts as flow
-use Rattle.flow_paths.specs.Views.{traversed_formal}
-use Rattle.flow_paths.specs.Points.{NamedPoint}
-use Rattle.flow_paths.specs.Laid.{FlowSub, FlowProgram, NamedSub, flow_sub, typing_of, flow_typing, flow_program, flow_named}
-use Rattle.flow_paths.specs.Paths.{facts_before}
-use Rattle.flow_paths.specs.Effects.{path_points, globals_of}
-use Rattle.flow_paths.specs.Scopes.{taken, brought, scope_behind, is_within, Leads}
+use Rattle.machine.specs.spark_base.Lists.{Has}
+use Rattle.machine.specs.place_names.declared.act.Act.{Act}
+use Rattle.machine.specs.place_names.declared.act.Act.TheVariants as act
+use Rattle.machine.specs.place_names.declared.act.Placed.{Placed}
+use Rattle.machine.specs.place_names.declared.fact.Fact.{Fact}
+use Rattle.machine.specs.place_names.declared.fact.Fact.TheVariants.{Moved, Lent}
+use Rattle.machine.specs.place_names.declared.rule.Loan.{Loan}
+use Rattle.machine.specs.place_names.declared.rule.Loan.TheVariants.{Observed}
+use Rattle.machine.specs.place_names.Names.{Name as PlaceName, overlaps}
+use Rattle.machine.specs.place_names.declared.act.Mode.TheVariants as mode
+use Rattle.machine.specs.type_definitions.Types.{Table, full, is_scalar, is_owning}
+use Rattle.machine.specs.typed_tree.Trees.{TypedTree, More}
+use Rattle.machine.specs.typed_tree.Programs.{TypedProgram}
+use Rattle.machine.specs.flow_paths.declared.report.Effects.{Effects}
+use Rattle.machine.specs.flow_paths.Instructions.{Call}
+use Rattle.machine.specs.flow_paths.Objects.{Typing, object_at, is_anonymous, is_package_object, view_of, Passing}
+use Rattle.machine.specs.place_names.Reports.{Report}
+use Rattle.machine.specs.flow_paths.Aliases.{overlap_reports}
+use Rattle.machine.specs.flow_paths.Aliases as alias
+use Rattle.machine.specs.flow_paths.Acts as flow
+use Rattle.machine.specs.flow_paths.Views.{traversed_formal}
+use Rattle.machine.specs.flow_paths.Points.{NamedPoint}
+use Rattle.machine.specs.flow_paths.Laid.{FlowSub, FlowProgram, NamedSub, flow_sub, typing_of, flow_typing, flow_program, flow_named}
+use Rattle.machine.specs.flow_paths.Paths.{facts_before}
+use Rattle.machine.specs.flow_paths.Effects.{path_points, globals_of}
+use Rattle.machine.specs.flow_paths.Scopes.{taken, brought, scope_behind, is_within, Leads}
 use Rattle.machine.specs.Words as machine
 use Rattle.machine.specs.Memory as memory
 use Rattle.machine.specs.Memory.{Place}
@@ -36,7 +36,7 @@ use Rattle.machine.specs.Step.{Turn, start, successor}
 use Rattle.machine.specs.Step as steps
 use Rattle.machine.specs.Calls.{Passed, all_passed}
 use Rattle.machine.specs.Owners.{waiting_in}
-use Rattle.place_names.specs.declared.act.Mode.TheVariants as mode
+use Rattle.machine.specs.place_names.declared.act.Mode.TheVariants as mode
 use Rattle.soundness.specs.OwnedWays.Ways.{Step, Way, after, AllowsAll, Past}
 use Rattle.soundness.specs.OwnedWays.Ways as ways
 use Rattle.soundness.proofs.OwnedWays.Locations.{reaches_along, named_along as rooted_along, past_under, under_along, under_itself}
@@ -96,7 +96,7 @@ use Rattle.viewed_steps.proofs.CallActs as acting
 use Rattle.viewed_steps.proofs.Emptied.{fewer_clear}
 use Rattle.viewed_steps.proofs.Handed.{gone_lent, with_gone}
 use Rattle.viewed_steps.proofs.Inherited.{after_more}
-use Rattle.spark_base.proofs.Lists.{Has-append_left, Has-append_right}
+use Rattle.soundness.proofs.Lists.{Has-append_left, Has-append_right}
 use Rattle.viewed_steps.proofs.Stilled.{still, lent_only, still_viewed}
 use Rattle.viewed_steps.proofs.Supplied.{SuppliesAll, supplies_each}
 use Rattle.viewed_steps.specs.Seeing.{sees_in}

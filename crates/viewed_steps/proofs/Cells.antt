@@ -2,30 +2,30 @@
 -- the call takes lies above them, and each cell has a name.
 use Rattle.std.proofs.Common.{◌≡◌, refl, sym, ap, ◌∙◌, subst, ◌⊎◌, inl, inr, ℕ, Bool, true, false, ◌&&◌, ◌==◌, eqb-true, eq-eqb, List, [], ◌∷◌, ◌++◌, map, flat_map, Option, Some, None, is_some}
 use Rattle.std.proofs.lemmas.Bool.{false≢true, true≢false}
-use Rattle.spark_base.specs.Lists.{Has}
-use Rattle.spark_base.specs.declared.position.Pos.{Pos}
-use Rattle.spark_base.proofs.Lists.{Has-append_left, Has-append_right, Has-append_cases, Has-map_from}
-use Rattle.place_names.specs.declared.selector.Sel.{Sel}
-use Rattle.place_names.specs.declared.selector.Sel.TheVariants.{Field, Elem, Deref}
-use Rattle.place_names.specs.declared.act.Act.{Act}
-use Rattle.place_names.specs.declared.act.Act.TheVariants as act
-use Rattle.place_names.specs.declared.act.Mode.{Mode}
-use Rattle.place_names.specs.declared.act.Mode.TheVariants as mode
-use Rattle.place_names.specs.declared.act.Placed.{Placed}
-use Rattle.place_names.specs.declared.fact.Fact.{Fact}
-use Rattle.place_names.specs.declared.fact.Fact.TheVariants.{Moved, Lent}
-use Rattle.place_names.specs.Names.{Name as PlaceName, is_equal, agree_along, overlaps, covers}
-use Rattle.place_names.specs.Facts.{adds, is_moved_under}
-use Rattle.place_names.specs.Reports.{Report}
-use Rattle.place_names.proofs.Names.{both_parts, both_true}
-use Rattle.type_definitions.specs.Types.{full, is_scalar, is_owning}
-use Rattle.typed_tree.specs.Trees.{TypedTree, Name, More}
-use Rattle.flow_paths.specs.Objects.{Typing, object_at, is_named_access, view_of, Passing, passing, passing_by}
-use Rattle.flow_paths.specs.Names.{Written, written, name_of}
-use Rattle.flow_paths.specs.Acts.{naming, actual_act, actual_acts}
-use Rattle.flow_paths.specs.Aliases as alias
-use Rattle.flow_paths.specs.Aliases.{pair_reports, overlap_reports}
-use Rattle.flow_paths.specs.Views.{is_in_mode}
+use Rattle.machine.specs.spark_base.Lists.{Has}
+use Rattle.machine.specs.spark_base.declared.position.Pos.{Pos}
+use Rattle.soundness.proofs.Lists.{Has-append_left, Has-append_right, Has-append_cases, Has-map_from}
+use Rattle.machine.specs.place_names.declared.selector.Sel.{Sel}
+use Rattle.machine.specs.place_names.declared.selector.Sel.TheVariants.{Field, Elem, Deref}
+use Rattle.machine.specs.place_names.declared.act.Act.{Act}
+use Rattle.machine.specs.place_names.declared.act.Act.TheVariants as act
+use Rattle.machine.specs.place_names.declared.act.Mode.{Mode}
+use Rattle.machine.specs.place_names.declared.act.Mode.TheVariants as mode
+use Rattle.machine.specs.place_names.declared.act.Placed.{Placed}
+use Rattle.machine.specs.place_names.declared.fact.Fact.{Fact}
+use Rattle.machine.specs.place_names.declared.fact.Fact.TheVariants.{Moved, Lent}
+use Rattle.machine.specs.place_names.Names.{Name as PlaceName, is_equal, agree_along, overlaps, covers}
+use Rattle.machine.specs.place_names.Facts.{adds, is_moved_under}
+use Rattle.machine.specs.place_names.Reports.{Report}
+use Rattle.soundness.proofs.PlaceNames.{both_parts, both_true}
+use Rattle.machine.specs.type_definitions.Types.{full, is_scalar, is_owning}
+use Rattle.machine.specs.typed_tree.Trees.{TypedTree, Name, More}
+use Rattle.machine.specs.flow_paths.Objects.{Typing, object_at, is_named_access, view_of, Passing, passing, passing_by}
+use Rattle.machine.specs.flow_paths.Names.{Written, written, name_of}
+use Rattle.machine.specs.flow_paths.Acts.{naming, actual_act, actual_acts}
+use Rattle.machine.specs.flow_paths.Aliases as alias
+use Rattle.machine.specs.flow_paths.Aliases.{pair_reports, overlap_reports}
+use Rattle.machine.specs.flow_paths.Views.{is_in_mode}
 use Rattle.machine.specs.Memory.{Memory, Place}
 use Rattle.machine.specs.Memory as memory
 use Rattle.machine.specs.Calls.{Passed, Value, From, To}

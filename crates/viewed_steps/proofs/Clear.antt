@@ -1,21 +1,21 @@
 -- What is shown to formals that own nothing is neither moved nor borrowed: the acts of the call ask so.
 use Rattle.std.proofs.Common.{◌≡◌, refl, sym, ap, ◌∙◌, subst, inl, inr, ℕ, Bool, true, false, ◌&&◌, List, [], ◌∷◌, map, Option, Some, None}
 use Rattle.std.proofs.lemmas.Bool.{false≢true, true≢false}
-use Rattle.spark_base.specs.Lists.{Has}
-use Rattle.place_names.specs.declared.act.Act.TheVariants as act
-use Rattle.place_names.specs.declared.act.Mode.{Mode}
-use Rattle.place_names.specs.declared.act.Mode.TheVariants as mode
-use Rattle.place_names.specs.declared.act.Placed.{Placed}
-use Rattle.place_names.specs.declared.fact.Fact.{Fact}
-use Rattle.place_names.specs.declared.fact.Fact.TheVariants.{Moved, Lent}
-use Rattle.place_names.specs.declared.rule.Loan.TheVariants.{Borrowed}
-use Rattle.place_names.specs.declared.rule.Rule.TheVariants.{O10}
-use Rattle.place_names.specs.Rules.{breaks_O10}
-use Rattle.type_definitions.specs.Types.{is_owning}
-use Rattle.typed_tree.specs.Trees.{TypedTree, Name, More}
-use Rattle.flow_paths.specs.Objects.{Typing, object_at, is_anonymous, is_named_access, view_of, passing, passing_by}
-use Rattle.flow_paths.specs.Names.{Written, written}
-use Rattle.flow_paths.specs.Acts.{naming, actual_act, actual_acts}
+use Rattle.machine.specs.spark_base.Lists.{Has}
+use Rattle.machine.specs.place_names.declared.act.Act.TheVariants as act
+use Rattle.machine.specs.place_names.declared.act.Mode.{Mode}
+use Rattle.machine.specs.place_names.declared.act.Mode.TheVariants as mode
+use Rattle.machine.specs.place_names.declared.act.Placed.{Placed}
+use Rattle.machine.specs.place_names.declared.fact.Fact.{Fact}
+use Rattle.machine.specs.place_names.declared.fact.Fact.TheVariants.{Moved, Lent}
+use Rattle.machine.specs.place_names.declared.rule.Loan.TheVariants.{Borrowed}
+use Rattle.machine.specs.place_names.declared.rule.Rule.TheVariants.{O10}
+use Rattle.machine.specs.place_names.Rules.{breaks_O10}
+use Rattle.machine.specs.type_definitions.Types.{is_owning}
+use Rattle.machine.specs.typed_tree.Trees.{TypedTree, Name, More}
+use Rattle.machine.specs.flow_paths.Objects.{Typing, object_at, is_anonymous, is_named_access, view_of, passing, passing_by}
+use Rattle.machine.specs.flow_paths.Names.{Written, written}
+use Rattle.machine.specs.flow_paths.Acts.{naming, actual_act, actual_acts}
 use Rattle.machine.specs.Owners.{is_in_formal}
 use Rattle.soundness.specs.OwnedWays.Ways.{Way, Allows, AllowsAll, after}
 use Rattle.soundness.specs.OwnedWays.Ways as ways

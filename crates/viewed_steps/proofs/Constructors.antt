@@ -1,18 +1,18 @@
 -- Which constructor a value has.
 use Rattle.std.specs.Prelude.{Bool, true, false}
-use Rattle.flow_paths.specs.Instructions as instructions
+use Rattle.machine.specs.flow_paths.Instructions as instructions
 use Rattle.machine.specs.Calls as calls
 use Rattle.machine.specs.Memory as memory
 use Rattle.machine.specs.Words as words
-use Rattle.place_names.specs.declared.act.Mode.TheVariants as mode
-use Rattle.place_names.specs.declared.act.Mode.{Mode}
-use Rattle.place_names.specs.declared.fact.Fact.TheVariants as fact
-use Rattle.place_names.specs.declared.fact.Fact.{Fact}
-use Rattle.place_names.specs.declared.rule.Loan.TheVariants as loan
-use Rattle.place_names.specs.declared.rule.Loan.{Loan}
+use Rattle.machine.specs.place_names.declared.act.Mode.TheVariants as mode
+use Rattle.machine.specs.place_names.declared.act.Mode.{Mode}
+use Rattle.machine.specs.place_names.declared.fact.Fact.TheVariants as fact
+use Rattle.machine.specs.place_names.declared.fact.Fact.{Fact}
+use Rattle.machine.specs.place_names.declared.rule.Loan.TheVariants as loan
+use Rattle.machine.specs.place_names.declared.rule.Loan.{Loan}
 use Rattle.soundness.specs.OwnedWays.Ways as ways
-use Rattle.type_definitions.specs.declared.table.Shape.TheVariants as shape
-use Rattle.type_definitions.specs.declared.table.Shape.{Shape}
+use Rattle.machine.specs.type_definitions.declared.table.Shape.TheVariants as shape
+use Rattle.machine.specs.type_definitions.declared.table.Shape.{Shape}
 
 abbrev pub is_assign_instruction : instructions.Instruction → Bool
 is_assign_instruction (instructions.Assign a b) = true

@@ -3,14 +3,14 @@
 use Rattle.std.proofs.Common.{◌≡◌, refl, sym, ap, ◌∙◌, subst, inl, inr, ℕ, zero, suc, ◌+◌, ◌<◌, Bool, true, false, ◌||◌, List, [], ◌∷◌, ◌++◌, length, get_or, arith, append-nil, append_assoc, if◌then◌else◌}
 use Rattle.std.proofs.lemmas.List.{length-append, length-map}
 use Rattle.std.proofs.lemmas.Bool.{true≢false}
-use Rattle.place_names.specs.declared.act.Act.TheVariants as act
-use Rattle.place_names.specs.declared.act.Placed.{Placed}
-use Rattle.place_names.specs.declared.fact.Fact.{Fact}
-use Rattle.type_definitions.specs.declared.table.Component.{Component as Part}
-use Rattle.type_definitions.specs.declared.table.Shape.{Shape}
-use Rattle.type_definitions.specs.declared.table.Shape.TheVariants as shape
-use Rattle.type_definitions.specs.Types.{shape_of, full, is_scalar, is_owning, words, owns_of, any_owns}
-use Rattle.typed_tree.specs.Trees.{TypedTree, Number, Literal, Text, Name, Component as IntoComponent, Designated, Element, Call, EndOfFile, Parens, Image, Unary, Binary, Short, IsNull, Aggregate, Alike, New, NoMore, More}
+use Rattle.machine.specs.place_names.declared.act.Act.TheVariants as act
+use Rattle.machine.specs.place_names.declared.act.Placed.{Placed}
+use Rattle.machine.specs.place_names.declared.fact.Fact.{Fact}
+use Rattle.machine.specs.type_definitions.declared.table.Component.{Component as Part}
+use Rattle.machine.specs.type_definitions.declared.table.Shape.{Shape}
+use Rattle.machine.specs.type_definitions.declared.table.Shape.TheVariants as shape
+use Rattle.machine.specs.type_definitions.Types.{shape_of, full, is_scalar, is_owning, words, owns_of, any_owns}
+use Rattle.machine.specs.typed_tree.Trees.{TypedTree, Number, Literal, Text, Name, Component as IntoComponent, Designated, Element, Call, EndOfFile, Parens, Image, Unary, Binary, Short, IsNull, Aggregate, Alike, New, NoMore, More}
 use Rattle.soundness.specs.OwnedWays.Ways.{Allows, AllowsAll, Loc, Object, OfVariable, Reaches, Step, Way, after}
 use Rattle.soundness.specs.OwnedLoans.Views.{Around, Viewed, Views, expand}
 use Rattle.machine.specs.Evaluate.{AsValue, ConstraintError, Done, Evaluated, Here, Now, Raises, Traps, checked, evaluate, followed_by, held_or_taken, part_type, parts_of, steps_of, variable_place, waited, walked}
@@ -26,26 +26,26 @@ use Rattle.soundness.specs.Typed.{Kept, Matches, OwnsByShape, Points}
 use Rattle.machine.specs.States.{Leak, Waiting}
 use Rattle.machine.specs.Memory.{Memory, Place, Slot, moved_out, slots_of, words_of}
 use Rattle.soundness.proofs.Stays.{One, Quiet, quiet_then, quiet_from}
-use Rattle.spark_base.specs.declared.position.Pos.{Pos}
+use Rattle.machine.specs.spark_base.declared.position.Pos.{Pos}
 use Rattle.soundness.proofs.Taking.{Takes}
 use Rattle.soundness.proofs.Waits.{drop_none}
 use Rattle.viewed_steps.proofs.Supplied.{Supplies, supplies_both, supplies_none, supplies_one, takes_supplied}
-use Rattle.flow_paths.specs.Objects.{Typing, object_at}
+use Rattle.machine.specs.flow_paths.Objects.{Typing, object_at}
 use Rattle.soundness.proofs.Walks.{Walked, way_along}
 use Rattle.soundness.proofs.Scalars.{acts, acts_append, after_append, allows_both, read_effect}
-use Rattle.flow_paths.specs.Acts.{acts_in, placed, used}
-use Rattle.place_names.specs.Facts.{effect}
+use Rattle.machine.specs.flow_paths.Acts.{acts_in, placed, used}
+use Rattle.machine.specs.place_names.Facts.{effect}
 use Rattle.machine.specs.Words.{element_of, element_type, fits_type, no_component, element_count}
 use Rattle.machine.specs.Typed.{field_count, is_array, is_record, tree_count}
 use Rattle.soundness.proofs.Keeping.{joined, repeated, repeated_long, retyped_points, scalar, top_points, kept_with}
 use Rattle.soundness.proofs.Lasting.{keeps}
 use Rattle.soundness.proofs.Steps.{matches_words, room, taken_slots}
-use Rattle.flow_paths.specs.Names.{name_of, waiting as waits_in}
+use Rattle.machine.specs.flow_paths.Names.{name_of, waiting as waits_in}
 use Rattle.soundness.proofs.Filling.{nth_part, part_is, part_offset, part_there, words_next, words_none, words_to, words_whole}
 use Rattle.soundness.proofs.Fixed.{plain_word}
 use Rattle.soundness.proofs.OwnedLoans.Allowed.{read_open}
 use Rattle.machine.specs.Words as machine
-use Rattle.typed_tree.specs.Trees as typed
+use Rattle.machine.specs.typed_tree.Trees as typed
 use Rattle.soundness.proofs.Passing.{AreReads}
 use Rattle.viewed_steps.proofs.Reading.{no_reads, one_read, both_reads, reads_in, index_reads, unowned, unowned_read}
 

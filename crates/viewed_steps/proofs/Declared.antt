@@ -1,19 +1,19 @@
 -- The declaration of an object that isn't a view.
 use Rattle.std.proofs.Common.{None, ◌≡◌, refl, sym, ap, ◌∙◌, subst, ◌⊎◌, inl, inr, ℕ, Bool, true, false, not, List, [], ◌∷◌, ◌+◌, ◌++◌, length, get_or, append-nil, Some, if◌then◌else◌, is_some}
 use Rattle.std.proofs.lemmas.Bool.{true≢false}
-use Rattle.spark_base.specs.Lists.{Has}
-use Rattle.place_names.specs.declared.act.Act.TheVariants as act
-use Rattle.place_names.specs.declared.fact.Fact.{Fact}
-use Rattle.place_names.specs.declared.fact.Fact.TheVariants.{Moved}
-use Rattle.place_names.specs.declared.rule.Loan.{Loan}
-use Rattle.place_names.specs.declared.rule.Loan.TheVariants.{Borrowed}
-use Rattle.place_names.specs.Names.{Name as PlaceName}
-use Rattle.type_definitions.specs.Types.{words, full}
-use Rattle.typed_tree.specs.Trees.{TypedTree, NoMore, More}
-use Rattle.flow_paths.specs.Objects.{Typing, object_at, is_anonymous, is_observer, view_of}
-use Rattle.flow_paths.specs.Names.{has_call, waiting as waits_in, first}
-use Rattle.flow_paths.specs.Scopes.{taken}
-use Rattle.flow_paths.specs.Acts.{acts_in, declared_acts, source_acts, observe}
+use Rattle.machine.specs.spark_base.Lists.{Has}
+use Rattle.machine.specs.place_names.declared.act.Act.TheVariants as act
+use Rattle.machine.specs.place_names.declared.fact.Fact.{Fact}
+use Rattle.machine.specs.place_names.declared.fact.Fact.TheVariants.{Moved}
+use Rattle.machine.specs.place_names.declared.rule.Loan.{Loan}
+use Rattle.machine.specs.place_names.declared.rule.Loan.TheVariants.{Borrowed}
+use Rattle.machine.specs.place_names.Names.{Name as PlaceName}
+use Rattle.machine.specs.type_definitions.Types.{words, full}
+use Rattle.machine.specs.typed_tree.Trees.{TypedTree, NoMore, More}
+use Rattle.machine.specs.flow_paths.Objects.{Typing, object_at, is_anonymous, is_observer, view_of}
+use Rattle.machine.specs.flow_paths.Names.{has_call, waiting as waits_in, first}
+use Rattle.machine.specs.flow_paths.Scopes.{taken}
+use Rattle.machine.specs.flow_paths.Acts.{acts_in, declared_acts, source_acts, observe}
 use Rattle.machine.specs.Words.{default}
 use Rattle.machine.specs.Words as machine
 use Rattle.machine.specs.Memory.{Memory, Slot, fresh, no_slot, variable_slots, declared, given_up}

@@ -1,9 +1,9 @@
 -- Names that go through no access value lead to parts of their variables.
 use Rattle.std.proofs.Common.{◌≡◌, refl, ap, ◌∙◌, ℕ, true, List, [], ◌∷◌}
 use Rattle.std.proofs.lemmas.Bool.{false≢true}
-use Rattle.type_definitions.specs.Types.{Table}
-use Rattle.typed_tree.specs.Trees.{TypedTree, Component as IntoComponent, Designated, Element}
-use Rattle.flow_paths.specs.Objects.{Typing}
+use Rattle.machine.specs.type_definitions.Types.{Table}
+use Rattle.machine.specs.typed_tree.Trees.{TypedTree, Component as IntoComponent, Designated, Element}
+use Rattle.machine.specs.flow_paths.Objects.{Typing}
 use Rattle.machine.specs.Memory.{Base, Place}
 use Rattle.machine.specs.Evaluate.{Here, Now, AsValue, Evaluated, Done, Raises, Traps, followed_by, evaluate, indexed, steps_of, walked, component_place, element_place}
 use Rattle.machine.specs.Evaluate as run

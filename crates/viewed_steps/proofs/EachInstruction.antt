@@ -1,32 +1,32 @@
 -- Each instruction leads on, but calls and their ends, operands that wait, returns with a value, and
 -- ends of scopes.
 use Rattle.viewed_steps.proofs.Traversed.{declared_source, assigned_source}
-use Rattle.flow_paths.specs.Views.{sub_acts}
+use Rattle.machine.specs.flow_paths.Views.{sub_acts}
 use Rattle.soundness.proofs.Passing.{plain_type}
 use Rattle.std.proofs.Common.{◌≡◌, refl, sym, ap, ◌∙◌, subst, ◌⊎◌, inl, inr, ℕ, suc, ◌+◌, ◌<◌, Bool, true, false, not, ◌||◌, List, [], ◌∷◌, ◌++◌, map, drop, length, arith, append-nil, Option, Some, None, nat_lt, int_le, ◌&&◌, if◌then◌else◌, take}
 use Rattle.std.proofs.lemmas.Bool.{false≢true, true≢false}
-use Rattle.spark_base.specs.Lists.{Has}
-use Rattle.spark_base.specs.declared.position.Pos.{Pos}
-use Rattle.place_names.specs.declared.act.Act.{Act}
-use Rattle.place_names.specs.declared.act.Act.TheVariants as act
-use Rattle.place_names.specs.declared.act.Placed.{Placed}
-use Rattle.place_names.specs.declared.fact.Fact.{Fact}
-use Rattle.place_names.specs.declared.fact.Fact.TheVariants.{Moved}
-use Rattle.place_names.specs.declared.rule.Loan.{Loan}
-use Rattle.place_names.specs.Names.{Name as PlaceName}
-use Rattle.type_definitions.specs.Types.{Table, is_scalar, full, shape_of}
-use Rattle.type_definitions.specs.declared.table.Shape.TheVariants as shape
-use Rattle.typed_tree.specs.Trees.{TypedTree, TypedCode, Name, Call as CallIn, NoMore, More}
-use Rattle.typed_tree.specs.Programs.{TypedProgram}
-use Rattle.flow_paths.specs.declared.report.Effects.{Effects}
-use Rattle.flow_paths.specs.Instructions.{Instruction, Skip, Declare, Assign, Call, Output, Input, Release, Test, Choose, Start, Next, Evaluate, LeaveLoop, Hold, EndScope, Finish, Fall}
-use Rattle.flow_paths.specs.Objects.{Typing, object_at, sub_at, is_anonymous, is_package_object, is_observer, view_of, has_scope_end, is_variable}
-use Rattle.flow_paths.specs.Names.{has_call, waiting as waits_in, name_of}
-use Rattle.flow_paths.specs.Acts as flow
-use Rattle.flow_paths.specs.Acts.{acts_in}
-use Rattle.flow_paths.specs.Laid.{FlowProgram, number_in, flow_typing, flow_program}
-use Rattle.flow_paths.specs.Scopes.{taken, brought, scope_behind, is_within, is_last, is_ready}
-use Rattle.run_values.specs.Items.{next_item}
+use Rattle.machine.specs.spark_base.Lists.{Has}
+use Rattle.machine.specs.spark_base.declared.position.Pos.{Pos}
+use Rattle.machine.specs.place_names.declared.act.Act.{Act}
+use Rattle.machine.specs.place_names.declared.act.Act.TheVariants as act
+use Rattle.machine.specs.place_names.declared.act.Placed.{Placed}
+use Rattle.machine.specs.place_names.declared.fact.Fact.{Fact}
+use Rattle.machine.specs.place_names.declared.fact.Fact.TheVariants.{Moved}
+use Rattle.machine.specs.place_names.declared.rule.Loan.{Loan}
+use Rattle.machine.specs.place_names.Names.{Name as PlaceName}
+use Rattle.machine.specs.type_definitions.Types.{Table, is_scalar, full, shape_of}
+use Rattle.machine.specs.type_definitions.declared.table.Shape.TheVariants as shape
+use Rattle.machine.specs.typed_tree.Trees.{TypedTree, TypedCode, Name, Call as CallIn, NoMore, More}
+use Rattle.machine.specs.typed_tree.Programs.{TypedProgram}
+use Rattle.machine.specs.flow_paths.declared.report.Effects.{Effects}
+use Rattle.machine.specs.flow_paths.Instructions.{Instruction, Skip, Declare, Assign, Call, Output, Input, Release, Test, Choose, Start, Next, Evaluate, LeaveLoop, Hold, EndScope, Finish, Fall}
+use Rattle.machine.specs.flow_paths.Objects.{Typing, object_at, sub_at, is_anonymous, is_package_object, is_observer, view_of, has_scope_end, is_variable}
+use Rattle.machine.specs.flow_paths.Names.{has_call, waiting as waits_in, name_of}
+use Rattle.machine.specs.flow_paths.Acts as flow
+use Rattle.machine.specs.flow_paths.Acts.{acts_in}
+use Rattle.machine.specs.flow_paths.Laid.{FlowProgram, number_in, flow_typing, flow_program}
+use Rattle.machine.specs.flow_paths.Scopes.{taken, brought, scope_behind, is_within, is_last, is_ready}
+use Rattle.soundness.specs.run_values.Items.{next_item}
 use Rattle.machine.specs.Words.{fits_type}
 use Rattle.machine.specs.Words as machine
 use Rattle.machine.specs.Memory.{Memory, given_up, declared, stored, words_of}

@@ -2,10 +2,10 @@
 -- out of the frame. They own nothing, and neither owners nor views see them.
 use Rattle.std.proofs.Common.{false, ◌≡◌, refl, sym, ap, ◌∙◌, subst, ℕ, zero, suc, Bool, List, [], ◌∷◌, ◌++◌, flat_map, take, drop, append_assoc}
 use Rattle.std.specs.List.{AllByRecursion}
-use Rattle.place_names.specs.declared.fact.Fact.{Fact}
-use Rattle.type_definitions.specs.Types.{is_owning}
-use Rattle.flow_paths.specs.Objects.{Typing}
-use Rattle.flow_paths.specs.Scopes.{taken}
+use Rattle.machine.specs.place_names.declared.fact.Fact.{Fact}
+use Rattle.machine.specs.type_definitions.Types.{is_owning}
+use Rattle.machine.specs.flow_paths.Objects.{Typing}
+use Rattle.machine.specs.flow_paths.Scopes.{taken}
 use Rattle.machine.specs.Memory.{Memory}
 use Rattle.machine.specs.States.{Waiting, Leak}
 use Rattle.machine.specs.Step.{Turn, typing, waiting}

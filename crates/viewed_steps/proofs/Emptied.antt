@@ -1,22 +1,22 @@
 -- What a place of the frame has is leaked, and the place is gone: a call with a formal of mode `out`, before the
 -- formal is declared.
 use Rattle.std.proofs.Common.{None, ◌≡◌, refl, sym, ap, ◌∙◌, subst, ◌⊎◌, inl, inr, ℕ, Bool, not, true, List, [], ◌∷◌, ◌<◌}
-use Rattle.spark_base.specs.Lists.{Has}
-use Rattle.place_names.specs.declared.fact.Fact.{Fact}
-use Rattle.place_names.specs.declared.fact.Fact.TheVariants.{Moved, Lent}
-use Rattle.place_names.specs.declared.rule.Loan.{Loan}
-use Rattle.place_names.specs.Names.{Name as PlaceName}
+use Rattle.machine.specs.spark_base.Lists.{Has}
+use Rattle.machine.specs.place_names.declared.fact.Fact.{Fact}
+use Rattle.machine.specs.place_names.declared.fact.Fact.TheVariants.{Moved, Lent}
+use Rattle.machine.specs.place_names.declared.rule.Loan.{Loan}
+use Rattle.machine.specs.place_names.Names.{Name as PlaceName}
 use Rattle.soundness.specs.OwnedWays.Ways.{Step, Loc, OfCell, Way, Object, Lost, Into, All, Empty, Gone, Held, View, Owned, Covered, Below, Reaches, IsRooted, Under, Past, Named, part, along, name_of}
 use Rattle.soundness.specs.OwnedWays.Ways as ways
 use Rattle.soundness.proofs.OwnedWays.Locations.{below, reaches_along, past_under, under_along, under_itself}
 use Rattle.soundness.proofs.OwnedWays.Unique.{one_location, one_way}
 use Rattle.soundness.proofs.OwnedWays.Assigned.{is_false, kept_fact}
 use Rattle.soundness.proofs.OwnedWays.Named.{longer, covered_under}
-use Rattle.place_names.specs.Names.{covers}
-use Rattle.place_names.specs.Facts.{removes, effect}
-use Rattle.place_names.specs.declared.act.Act.TheVariants as act
-use Rattle.place_names.specs.declared.act.Mode.TheVariants as mode
-use Rattle.spark_base.proofs.Lists.{Has-append_cases, Has-filter}
+use Rattle.machine.specs.place_names.Names.{covers}
+use Rattle.machine.specs.place_names.Facts.{removes, effect}
+use Rattle.machine.specs.place_names.declared.act.Act.TheVariants as act
+use Rattle.machine.specs.place_names.declared.act.Mode.TheVariants as mode
+use Rattle.soundness.proofs.Lists.{Has-append_cases, Has-filter}
 use Rattle.soundness.proofs.Contents.{bool_cases}
 use Rattle.std.specs.List.{filter}
 use Rattle.soundness.specs.OwnedLoans.Views.{Views, AreClear, expand}

@@ -1,19 +1,19 @@
 -- The end of a scope: observers that fade give up their ways, and the object gives up its own.
 use Rattle.std.proofs.Common.{◌≡◌, refl, sym, ap, ◌∙◌, subst, inl, inr, ℕ, ◌<◌, Bool, true, false, ◌&&◌, ◌||◌, ◌==◌, eqb-true, eq-eqb, List, [], ◌∷◌, drop, length, get_or, arith, Option, Some, None, is_some}
 use Rattle.std.proofs.lemmas.Bool.{false≢true}
-use Rattle.spark_base.specs.Lists.{Has}
-use Rattle.place_names.specs.declared.act.Act.TheVariants as act
-use Rattle.place_names.specs.declared.fact.Fact.{Fact}
-use Rattle.place_names.specs.declared.fact.Fact.TheVariants.{Lent}
-use Rattle.place_names.specs.declared.rule.Loan.{Loan}
-use Rattle.place_names.specs.declared.rule.Loan.TheVariants.{Observed, Borrowed}
-use Rattle.place_names.specs.Names.{Name as PlaceName}
-use Rattle.place_names.specs.Facts.{effect}
-use Rattle.flow_paths.specs.Instructions.{EndScope}
-use Rattle.flow_paths.specs.Objects.{Typing, object_at, is_variable, is_anonymous, is_borrowing, is_observing, is_borrower, is_observer, is_package_object, view_of}
-use Rattle.flow_paths.specs.Points.{NamedPoint}
-use Rattle.flow_paths.specs.Scopes.{taken, Leads, is_within, is_last}
-use Rattle.flow_paths.specs.Views.{encloses, scope_of}
+use Rattle.machine.specs.spark_base.Lists.{Has}
+use Rattle.machine.specs.place_names.declared.act.Act.TheVariants as act
+use Rattle.machine.specs.place_names.declared.fact.Fact.{Fact}
+use Rattle.machine.specs.place_names.declared.fact.Fact.TheVariants.{Lent}
+use Rattle.machine.specs.place_names.declared.rule.Loan.{Loan}
+use Rattle.machine.specs.place_names.declared.rule.Loan.TheVariants.{Observed, Borrowed}
+use Rattle.machine.specs.place_names.Names.{Name as PlaceName}
+use Rattle.machine.specs.place_names.Facts.{effect}
+use Rattle.machine.specs.flow_paths.Instructions.{EndScope}
+use Rattle.machine.specs.flow_paths.Objects.{Typing, object_at, is_variable, is_anonymous, is_borrowing, is_observing, is_borrower, is_observer, is_package_object, view_of}
+use Rattle.machine.specs.flow_paths.Points.{NamedPoint}
+use Rattle.machine.specs.flow_paths.Scopes.{taken, Leads, is_within, is_last}
+use Rattle.machine.specs.flow_paths.Views.{encloses, scope_of}
 use Rattle.machine.specs.Words as machine
 use Rattle.machine.specs.Memory.{Memory, Slot, fresh, no_slot, variable_slots, undeclared}
 use Rattle.machine.specs.Step.{Turn, typing}

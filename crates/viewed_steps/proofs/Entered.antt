@@ -5,11 +5,11 @@ use Rattle.soundness.specs.ViewedSoundness.Holds.{is_bundle, is_view, IsNamed, i
 use Rattle.std.proofs.Common.{◌≡◌, refl, sym, ap, ◌∙◌, subst, ◌⊎◌, inl, inr, ℕ, suc, ◌+◌, Bool, true, false, not, List, [], ◌∷◌, ◌++◌, take, drop, length, get_or, arith, if◌then◌else◌, Some}
 use Rattle.std.proofs.lemmas.List.{length-map}
 use Rattle.std.proofs.lemmas.Bool.{false≢true}
-use Rattle.spark_base.specs.Lists.{Has}
-use Rattle.spark_base.specs.declared.position.Pos.{Pos}
-use Rattle.place_names.specs.declared.fact.Fact.{Fact}
-use Rattle.type_definitions.specs.Types.{shape_of, words, full, is_scalar, is_owning}
-use Rattle.flow_paths.specs.Objects.{Typing, object_at, is_anonymous, is_package_object, view_of}
+use Rattle.machine.specs.spark_base.Lists.{Has}
+use Rattle.machine.specs.spark_base.declared.position.Pos.{Pos}
+use Rattle.machine.specs.place_names.declared.fact.Fact.{Fact}
+use Rattle.machine.specs.type_definitions.Types.{shape_of, words, full, is_scalar, is_owning}
+use Rattle.machine.specs.flow_paths.Objects.{Typing, object_at, is_anonymous, is_package_object, view_of}
 use Rattle.machine.specs.Words.{access_offsets}
 use Rattle.machine.specs.Memory as memory
 use Rattle.machine.specs.Memory.{Slot, Memory, Place, fresh, no_slot, variable_slots, slots_at, slots_of, words_of, gone_at, moved_out, declared}
@@ -20,7 +20,7 @@ use Rattle.soundness.specs.OwnedWays.Ways.{Step, OfVariable, OfHand, Loc, OfRoot
 use Rattle.soundness.proofs.OwnedWays.Locations.{same_loc}
 use Rattle.soundness.specs.PartOffsets.Parts.{type_in, has_part, IsSettled}
 use Rattle.soundness.specs.Seen.{content, word_in, seen, home, is_view_formal, in_hand}
-use Rattle.type_definitions.specs.declared.table.Shape.TheVariants as shape
+use Rattle.machine.specs.type_definitions.declared.table.Shape.TheVariants as shape
 use Rattle.soundness.specs.Typed.{Matches, IsCell, OwnsByShape, Kept, Spot, Points}
 use Rattle.soundness.proofs.Memories.{put_other}
 use Rattle.soundness.proofs.Moments.{number_part, declared_sound}

@@ -2,10 +2,10 @@
 -- meanwhile, and have no number.
 use Rattle.std.proofs.Common.{◌≡◌, refl, sym, ap, ◌∙◌, subst, ◌⊎◌, inl, inr, ℕ, suc, List, [], ◌∷◌, ◌++◌, get_or, arith, append-nil, append_assoc, Bool, true, false}
 use Rattle.std.proofs.lemmas.Bool.{false≢true}
-use Rattle.spark_base.specs.Lists.{Has}
-use Rattle.spark_base.specs.declared.position.Pos.{Pos}
-use Rattle.place_names.specs.declared.fact.Fact.{Fact}
-use Rattle.flow_paths.specs.Objects.{Typing, object_at}
+use Rattle.machine.specs.spark_base.Lists.{Has}
+use Rattle.machine.specs.spark_base.declared.position.Pos.{Pos}
+use Rattle.machine.specs.place_names.declared.fact.Fact.{Fact}
+use Rattle.machine.specs.flow_paths.Objects.{Typing, object_at}
 use Rattle.machine.specs.Words.{default}
 use Rattle.machine.specs.Words as machine
 use Rattle.machine.specs.Memory.{Memory, Place, no_slot, variable_slots, words_of, moved_out, declared}
@@ -13,7 +13,7 @@ use Rattle.machine.specs.Calls.{Passed, Value, From, To, with_formal, with_forma
 use Rattle.machine.specs.States.{Waiting, Leak, Return}
 use Rattle.soundness.specs.OwnedWays.Ways.{Step, OfVariable, OfHand, Loc, OfRoot, OfCell, Reaches, Owned, Way, Object, Empty, Held, Under, Past, along, base_of}
 use Rattle.soundness.proofs.OwnedWays.Locations.{under_along, under_itself}
-use Rattle.type_definitions.specs.Types.{is_owning}
+use Rattle.machine.specs.type_definitions.Types.{is_owning}
 use Rattle.soundness.specs.PartOffsets.Parts.{IsSettled}
 use Rattle.soundness.proofs.Contents.{word_no}
 use Rattle.soundness.proofs.Lasting.{keeps}

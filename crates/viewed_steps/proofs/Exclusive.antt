@@ -2,31 +2,31 @@
 -- such formal sees nor a place that the call takes meets it.
 use Rattle.std.proofs.Common.{◌≡◌, refl, sym, ap, ◌∙◌, subst, ◌⊎◌, inl, inr, ℕ, Bool, true, false, not, ◌&&◌, List, [], ◌∷◌, ◌++◌, Some}
 use Rattle.std.proofs.lemmas.Bool.{false≢true}
-use Rattle.spark_base.specs.Lists.{Has}
-use Rattle.place_names.specs.declared.fact.Fact.{Fact}
-use Rattle.place_names.specs.declared.fact.Fact.TheVariants.{Moved, Lent}
-use Rattle.place_names.specs.declared.rule.Loan.TheVariants.{Borrowed}
-use Rattle.place_names.specs.declared.act.Mode.{Mode}
-use Rattle.place_names.specs.declared.act.Mode.TheVariants as mode
-use Rattle.type_definitions.specs.declared.judgement.View.{View as TypeView}
-use Rattle.type_definitions.specs.declared.judgement.View.TheVariants as view
-use Rattle.spark_base.proofs.Lists.{Has-append_right}
-use Rattle.place_names.specs.Names.{Name as PlaceName, overlaps}
-use Rattle.place_names.specs.Reports.{Report}
-use Rattle.place_names.specs.Rules.{moved_or_lent, moved_or_borrowed}
-use Rattle.typed_tree.specs.Trees.{TypedTree, Name, More}
-use Rattle.flow_paths.specs.Objects.{Typing, object_at, is_named_access, is_variable_access, view_of}
+use Rattle.machine.specs.spark_base.Lists.{Has}
+use Rattle.machine.specs.place_names.declared.fact.Fact.{Fact}
+use Rattle.machine.specs.place_names.declared.fact.Fact.TheVariants.{Moved, Lent}
+use Rattle.machine.specs.place_names.declared.rule.Loan.TheVariants.{Borrowed}
+use Rattle.machine.specs.place_names.declared.act.Mode.{Mode}
+use Rattle.machine.specs.place_names.declared.act.Mode.TheVariants as mode
+use Rattle.machine.specs.type_definitions.declared.judgement.View.{View as TypeView}
+use Rattle.machine.specs.type_definitions.declared.judgement.View.TheVariants as view
+use Rattle.soundness.proofs.Lists.{Has-append_right}
+use Rattle.machine.specs.place_names.Names.{Name as PlaceName, overlaps}
+use Rattle.machine.specs.place_names.Reports.{Report}
+use Rattle.machine.specs.place_names.Rules.{moved_or_lent, moved_or_borrowed}
+use Rattle.machine.specs.typed_tree.Trees.{TypedTree, Name, More}
+use Rattle.machine.specs.flow_paths.Objects.{Typing, object_at, is_named_access, is_variable_access, view_of}
 use Rattle.machine.specs.Owners.{is_in}
-use Rattle.flow_paths.specs.Names.{Written, written, name_of}
-use Rattle.flow_paths.specs.Aliases.{overlap_reports}
-use Rattle.flow_paths.specs.Aliases as alias
+use Rattle.machine.specs.flow_paths.Names.{Written, written, name_of}
+use Rattle.machine.specs.flow_paths.Aliases.{overlap_reports}
+use Rattle.machine.specs.flow_paths.Aliases as alias
 use Rattle.soundness.specs.OwnedWays.Ways.{Step, Way, All, View, Under, Past, Named, AllowsAll, number_of}
 use Rattle.soundness.specs.OwnedWays.Ways as ways
 use Rattle.soundness.specs.Seen.{home}
 use Rattle.soundness.proofs.Scalars.{acts}
 use Rattle.soundness.specs.OwnedLoans.Views.{Around, Views, expand, Viewed}
 use Rattle.soundness.proofs.OwnedLoans.Safe.{Unlent, Unborrowed, unlent_below, designated_over}
-use Rattle.place_names.proofs.Names.{overlaps-sym}
+use Rattle.soundness.proofs.PlaceNames.{overlaps-sym}
 use Rattle.soundness.proofs.OwnedLoans.Ways.{Meet}
 use Rattle.soundness.specs.ViewedSoundness.Holds.{is_given, is_view, is_bundle, is_fixed, AllKeep, GoesBy}
 use Rattle.viewed_steps.proofs.SeenApart.{seen_apart}

@@ -2,7 +2,7 @@
 use Rattle.std.proofs.Common.{◌≡◌, refl, sym, ap, ◌∙◌, inl, inr, ℕ, Bool, true, false, List, Some, None, if◌then◌else◌}
 use Rattle.std.proofs.lemmas.Bool.{false≢true}
 use Rattle.std.specs.Prelude.{is_some}
-use Rattle.place_names.specs.declared.fact.Fact.{Fact}
+use Rattle.machine.specs.place_names.declared.fact.Fact.{Fact}
 use Rattle.soundness.specs.OwnedWays.Ways.{Step, OfVariable, OfHand, Way, Object, Lost, Into, All, View, number_of, name_of}
 use Rattle.soundness.specs.OwnedLoans.Views.{Around, Views, expand_root, expand_part, inner_steps, part_from, expand, Viewed}
 

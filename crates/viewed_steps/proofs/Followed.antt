@@ -16,23 +16,23 @@ use Rattle.soundness.specs.Sound.{Stage, IsNamedSub, IsAtPoint}
 use Rattle.std.proofs.Common.{◌≡◌, refl, sym, ap, ◌∙◌, subst, ◌⊎◌, inl, inr, ℕ, Bool, true, false, List, [], ◌∷◌, ◌++◌, map, Option, Some, None, if◌then◌else◌}
 use Rattle.std.proofs.lemmas.Bool.{false≢true}
 use Rattle.std.specs.Prelude.{is_some}
-use Rattle.spark_base.specs.Lists.{Has}
-use Rattle.place_names.specs.declared.act.Mode.TheVariants as mode
-use Rattle.place_names.specs.declared.act.Placed.{Placed}
-use Rattle.place_names.specs.declared.fact.Fact.{Fact}
-use Rattle.typed_tree.specs.Trees.{TypedTree, More}
-use Rattle.typed_tree.specs.Programs.{TypedProgram}
-use Rattle.flow_paths.specs.Objects.{Signature}
-use Rattle.type_definitions.specs.Types.{Table}
-use Rattle.flow_paths.specs.declared.report.Effects.{Effects}
-use Rattle.flow_paths.specs.Acts.{actual_values, actual_acts}
-use Rattle.flow_paths.specs.Effects.{path_points, globals_of, called_acts, act_writes, act_reads}
-use Rattle.flow_paths.specs.Instructions.{Call}
-use Rattle.flow_paths.specs.Laid.{NamedSub, FlowProgram, flow_sub, flow_program, flow_named, typing_of, flow_typing}
-use Rattle.flow_paths.specs.Objects.{Typing, passing, passings, first_traversed, traverses, sub_at, object_at, is_anonymous, is_borrower, is_package_object, view_of}
-use Rattle.flow_paths.specs.Paths.{ControlPath, facts_before}
-use Rattle.flow_paths.specs.Points.{NamedPoint}
-use Rattle.flow_paths.specs.Views.{traversed_formal, traversed_of}
+use Rattle.machine.specs.spark_base.Lists.{Has}
+use Rattle.machine.specs.place_names.declared.act.Mode.TheVariants as mode
+use Rattle.machine.specs.place_names.declared.act.Placed.{Placed}
+use Rattle.machine.specs.place_names.declared.fact.Fact.{Fact}
+use Rattle.machine.specs.typed_tree.Trees.{TypedTree, More}
+use Rattle.machine.specs.typed_tree.Programs.{TypedProgram}
+use Rattle.machine.specs.flow_paths.Objects.{Signature}
+use Rattle.machine.specs.type_definitions.Types.{Table}
+use Rattle.machine.specs.flow_paths.declared.report.Effects.{Effects}
+use Rattle.machine.specs.flow_paths.Acts.{actual_values, actual_acts}
+use Rattle.machine.specs.flow_paths.Effects.{path_points, globals_of, called_acts, act_writes, act_reads}
+use Rattle.machine.specs.flow_paths.Instructions.{Call}
+use Rattle.machine.specs.flow_paths.Laid.{NamedSub, FlowProgram, flow_sub, flow_program, flow_named, typing_of, flow_typing}
+use Rattle.machine.specs.flow_paths.Objects.{Typing, passing, passings, first_traversed, traverses, sub_at, object_at, is_anonymous, is_borrower, is_package_object, view_of}
+use Rattle.machine.specs.flow_paths.Paths.{ControlPath, facts_before}
+use Rattle.machine.specs.flow_paths.Points.{NamedPoint}
+use Rattle.machine.specs.flow_paths.Views.{traversed_formal, traversed_of}
 use Rattle.machine.specs.States.{State, Frame, sub_of}
 use Rattle.soundness.specs.OwnedWays.Ways.{Way, after}
 use Rattle.soundness.specs.OwnedWays.Ways as ways

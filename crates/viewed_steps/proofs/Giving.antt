@@ -1,41 +1,41 @@
 -- A traversal function gives its result: null, or what goes on from what its first formal sees.
-use Rattle.place_names.specs.declared.act.Act.TheVariants as act
-use Rattle.flow_paths.specs.Acts as flow
-use Rattle.flow_paths.specs.Acts.{acts_in}
+use Rattle.machine.specs.place_names.declared.act.Act.TheVariants as act
+use Rattle.machine.specs.flow_paths.Acts as flow
+use Rattle.machine.specs.flow_paths.Acts.{acts_in}
 use Rattle.soundness.proofs.Scalars.{acts}
 use Rattle.soundness.proofs.Taking.{Takes, takes_as, nothing_more, takes_zero}
 use Rattle.viewed_steps.proofs.Returned.{goes_on, names_view, name_given, changes_nothing}
-use Rattle.place_names.specs.Facts.{removes, effect}
+use Rattle.machine.specs.place_names.Facts.{removes, effect}
 use Rattle.soundness.proofs.Operands.{hold_is}
 use Rattle.soundness.proofs.Stays.{Quiet}
-use Rattle.type_definitions.specs.declared.table.Shape.TheVariants as shape
+use Rattle.machine.specs.type_definitions.declared.table.Shape.TheVariants as shape
 use Rattle.viewed_steps.proofs.Taking as taking
 use Rattle.viewed_steps.proofs.Results as results
 use Rattle.std.specs.Prelude.{is_some, filter}
 use Rattle.soundness.proofs.OwnedLoans.Ways.{expand_on}
 use Rattle.viewed_steps.proofs.Traversed.{source_named}
-use Rattle.flow_paths.specs.Views.{sub_acts, traversed_formal, IsOnlyRoot}
+use Rattle.machine.specs.flow_paths.Views.{sub_acts, traversed_formal, IsOnlyRoot}
 use Rattle.viewed_steps.specs.Traversals.{GivesView, IsSourceIn, SeesFirst, IsSourceName, AreGiven, traversed_name}
 use Rattle.viewed_steps.proofs.Sources.{view_shape}
-use Rattle.spark_base.specs.declared.position.Pos.{Pos}
+use Rattle.machine.specs.spark_base.declared.position.Pos.{Pos}
 use Rattle.soundness.proofs.ViewedSoundness.ViewKinds.{given_view, access_bundle, true_false}
 use Rattle.std.proofs.Common.{◌≡◌, refl, sym, ap, ◌∙◌, subst, ◌⊎◌, inl, inr, ℕ, suc, ◌<◌, Bool, true, false, List, [], ◌∷◌, ◌++◌, drop, length, Some, None, Option, ◌||◌, append-nil, not, take, if◌then◌else◌}
 use Rattle.std.proofs.lemmas.Bool.{false≢true}
-use Rattle.spark_base.specs.Lists.{Has}
-use Rattle.place_names.specs.declared.act.Act.{Act}
-use Rattle.place_names.specs.declared.fact.Fact.{Fact}
-use Rattle.place_names.specs.declared.fact.Fact.TheVariants.{Moved}
-use Rattle.place_names.specs.Names.{Name as PlaceName}
-use Rattle.type_definitions.specs.Types.{Table, full, words, words_of as shape_words, shape_of}
-use Rattle.typed_tree.specs.Trees.{TypedTree, NoMore, More, Name, Call as CallIn, Null as TypedNull}
-use Rattle.typed_tree.specs.Programs.{TypedProgram}
-use Rattle.flow_paths.specs.declared.report.Effects.{Effects}
-use Rattle.flow_paths.specs.Instructions.{Instruction, EndScope, Declare, Assign, Call}
-use Rattle.flow_paths.specs.Objects.{Typing, is_anonymous, is_package_object, traverses}
-use Rattle.flow_paths.specs.Names.{waiting as waits_in, name_of}
-use Rattle.flow_paths.specs.Points.{NamedPoint}
-use Rattle.flow_paths.specs.Laid.{FlowProgram, NamedSub, typing_of, flow_typing, flow_program, flow_named, FlowSub, flow_sub}
-use Rattle.flow_paths.specs.Scopes.{taken, scope_behind}
+use Rattle.machine.specs.spark_base.Lists.{Has}
+use Rattle.machine.specs.place_names.declared.act.Act.{Act}
+use Rattle.machine.specs.place_names.declared.fact.Fact.{Fact}
+use Rattle.machine.specs.place_names.declared.fact.Fact.TheVariants.{Moved}
+use Rattle.machine.specs.place_names.Names.{Name as PlaceName}
+use Rattle.machine.specs.type_definitions.Types.{Table, full, words, words_of as shape_words, shape_of}
+use Rattle.machine.specs.typed_tree.Trees.{TypedTree, NoMore, More, Name, Call as CallIn, Null as TypedNull}
+use Rattle.machine.specs.typed_tree.Programs.{TypedProgram}
+use Rattle.machine.specs.flow_paths.declared.report.Effects.{Effects}
+use Rattle.machine.specs.flow_paths.Instructions.{Instruction, EndScope, Declare, Assign, Call}
+use Rattle.machine.specs.flow_paths.Objects.{Typing, is_anonymous, is_package_object, traverses}
+use Rattle.machine.specs.flow_paths.Names.{waiting as waits_in, name_of}
+use Rattle.machine.specs.flow_paths.Points.{NamedPoint}
+use Rattle.machine.specs.flow_paths.Laid.{FlowProgram, NamedSub, typing_of, flow_typing, flow_program, flow_named, FlowSub, flow_sub}
+use Rattle.machine.specs.flow_paths.Scopes.{taken, scope_behind}
 use Rattle.machine.specs.Words as machine
 use Rattle.machine.specs.Evaluate as run
 use Rattle.soundness.proofs.Contents.{bool_cases}
@@ -66,7 +66,7 @@ use Rattle.viewed_steps.proofs.Standing as standing
 use Rattle.viewed_steps.proofs.Packages as packages
 use Rattle.viewed_steps.proofs.Innermost as innermost
 use Rattle.viewed_steps.proofs.EachInstruction as each
-use Rattle.flow_paths.specs.Instructions.{Hold}
+use Rattle.machine.specs.flow_paths.Instructions.{Hold}
 use Rattle.soundness.specs.OwnedWays.Ways as ways
 use Rattle.soundness.specs.OwnedLoans.Views.{on, expand}
 use Rattle.soundness.proofs.ViewedSoundness.Lends.{matches_on}

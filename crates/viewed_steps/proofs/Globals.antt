@@ -2,27 +2,27 @@
 -- writes it.
 use Rattle.std.proofs.Common.{◌≡◌, refl, sym, ap, ◌∙◌, subst, ◌⊎◌, inl, inr, ℕ, Bool, true, false, not, ◌&&◌, ◌||◌, ◌==◌, eq-eqb, List, [], ◌∷◌, map, flat_map, Option, Some, None, is_some, if◌then◌else◌}
 use Rattle.std.proofs.lemmas.Bool.{true≢false}
-use Rattle.spark_base.specs.Lists.{Has}
-use Rattle.spark_base.proofs.Lists.{Has-append_left, Has-append_right, Has-append_cases}
-use Rattle.place_names.specs.declared.act.Act.TheVariants as act
-use Rattle.place_names.specs.declared.act.Mode.{Mode}
-use Rattle.place_names.specs.declared.act.Mode.TheVariants as mode
-use Rattle.place_names.specs.declared.act.Placed.{Placed}
-use Rattle.place_names.specs.declared.rule.Rule.TheVariants.{A2}
-use Rattle.type_definitions.specs.Types.{is_owning}
-use Rattle.typed_tree.specs.Trees.{TypedTree, More}
-use Rattle.flow_paths.specs.declared.report.Effects.{Effects}
-use Rattle.flow_paths.specs.Instructions.{Call}
-use Rattle.flow_paths.specs.Objects.{Typing, Signature, object_at, sub_at, is_package_object, is_named_access, is_variable_access, view_of, passing, passing_by, Place}
-use Rattle.flow_paths.specs.Names.{Written, written}
-use Rattle.flow_paths.specs.Acts.{naming, actual_act, actual_acts}
-use Rattle.flow_paths.specs.Effects.{is_in, read_by, written_by, act_writes}
-use Rattle.flow_paths.specs.Views.{is_in_mode, text_report}
-use Rattle.flow_paths.specs.Points.{FlowPoint}
-use Rattle.flow_paths.specs.Laid.{FlowSub, FlowProgram, flow_typing}
-use Rattle.flow_paths.specs.Reports.{AreReports}
-use Rattle.flow_paths.specs.Aliases as alias
-use Rattle.flow_paths.specs.Aliases.{meets_global, global_reports, overlap_reports, passed_reports, call_reports}
+use Rattle.machine.specs.spark_base.Lists.{Has}
+use Rattle.soundness.proofs.Lists.{Has-append_left, Has-append_right, Has-append_cases}
+use Rattle.machine.specs.place_names.declared.act.Act.TheVariants as act
+use Rattle.machine.specs.place_names.declared.act.Mode.{Mode}
+use Rattle.machine.specs.place_names.declared.act.Mode.TheVariants as mode
+use Rattle.machine.specs.place_names.declared.act.Placed.{Placed}
+use Rattle.machine.specs.place_names.declared.rule.Rule.TheVariants.{A2}
+use Rattle.machine.specs.type_definitions.Types.{is_owning}
+use Rattle.machine.specs.typed_tree.Trees.{TypedTree, More}
+use Rattle.machine.specs.flow_paths.declared.report.Effects.{Effects}
+use Rattle.machine.specs.flow_paths.Instructions.{Call}
+use Rattle.machine.specs.flow_paths.Objects.{Typing, Signature, object_at, sub_at, is_package_object, is_named_access, is_variable_access, view_of, passing, passing_by, Place}
+use Rattle.machine.specs.flow_paths.Names.{Written, written}
+use Rattle.machine.specs.flow_paths.Acts.{naming, actual_act, actual_acts}
+use Rattle.machine.specs.flow_paths.Effects.{is_in, read_by, written_by, act_writes}
+use Rattle.machine.specs.flow_paths.Views.{is_in_mode, text_report}
+use Rattle.machine.specs.flow_paths.Points.{FlowPoint}
+use Rattle.machine.specs.flow_paths.Laid.{FlowSub, FlowProgram, flow_typing}
+use Rattle.machine.specs.flow_paths.Reports.{AreReports}
+use Rattle.machine.specs.flow_paths.Aliases as alias
+use Rattle.machine.specs.flow_paths.Aliases.{meets_global, global_reports, overlap_reports, passed_reports, call_reports}
 use Rattle.machine.specs.States.{sub_of}
 use Rattle.soundness.specs.Sound.{Uses}
 use Rattle.soundness.proofs.Passing.{signature_is}

@@ -2,25 +2,25 @@
 -- is gone for them is known, and none of their views concerns it. And what holds without it.
 use Rattle.std.proofs.Common.{◌≡◌, refl, sym, ap, ◌∙◌, subst, ◌⊎◌, inl, inr, ℕ, Bool, true, false, ◌&&◌, ◌==◌, eqb-true, List, ◌++◌, Option, Some, None}
 use Rattle.std.proofs.lemmas.Bool.{false≢true, true≢false}
-use Rattle.spark_base.proofs.Lists.{Has-append_left, Has-append_right, Has-append_cases}
-use Rattle.spark_base.specs.Lists.{Has}
-use Rattle.place_names.specs.declared.fact.Fact.{Fact}
-use Rattle.place_names.specs.declared.fact.Fact.TheVariants.{Moved, Lent}
-use Rattle.place_names.specs.declared.rule.Loan.TheVariants.{Borrowed, Observed}
-use Rattle.place_names.specs.Names.{Name, overlaps}
-use Rattle.place_names.specs.declared.rule.Loan.{Loan}
-use Rattle.place_names.specs.Facts.{place}
-use Rattle.flow_paths.specs.Effects.{AreEffects, written_by}
-use Rattle.flow_paths.specs.Laid.{NamedSub, flow_named}
+use Rattle.soundness.proofs.Lists.{Has-append_left, Has-append_right, Has-append_cases}
+use Rattle.machine.specs.spark_base.Lists.{Has}
+use Rattle.machine.specs.place_names.declared.fact.Fact.{Fact}
+use Rattle.machine.specs.place_names.declared.fact.Fact.TheVariants.{Moved, Lent}
+use Rattle.machine.specs.place_names.declared.rule.Loan.TheVariants.{Borrowed, Observed}
+use Rattle.machine.specs.place_names.Names.{Name, overlaps}
+use Rattle.machine.specs.place_names.declared.rule.Loan.{Loan}
+use Rattle.machine.specs.place_names.Facts.{place}
+use Rattle.machine.specs.flow_paths.Effects.{AreEffects, written_by}
+use Rattle.machine.specs.flow_paths.Laid.{NamedSub, flow_named}
 use Rattle.machine.specs.States.{Return}
 use Rattle.soundness.specs.Sound.{Uses, IsNamedSub}
 use Rattle.viewed_steps.specs.Sound.{AreWaiting, IsBeyond, Disturbs, loan_by}
 use Rattle.viewed_steps.proofs.Apart.{moved_written, lent_written, lent_used, written_disturbs, kept_there, held_apart}
-use Rattle.type_definitions.specs.Types.{Table}
-use Rattle.typed_tree.specs.Programs.{TypedProgram}
-use Rattle.flow_paths.specs.declared.report.Effects.{Effects}
-use Rattle.flow_paths.specs.Objects.{Typing, is_package_object}
-use Rattle.flow_paths.specs.Laid.{FlowProgram, flow_typing, flow_program}
+use Rattle.machine.specs.type_definitions.Types.{Table}
+use Rattle.machine.specs.typed_tree.Programs.{TypedProgram}
+use Rattle.machine.specs.flow_paths.declared.report.Effects.{Effects}
+use Rattle.machine.specs.flow_paths.Objects.{Typing, is_package_object}
+use Rattle.machine.specs.flow_paths.Laid.{FlowProgram, flow_typing, flow_program}
 use Rattle.machine.specs.States.{State}
 use Rattle.soundness.specs.OwnedWays.Ways.{Way, View, name_of}
 use Rattle.soundness.specs.Seen.{home}

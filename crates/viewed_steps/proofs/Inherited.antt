@@ -4,23 +4,23 @@ use Rattle.std.proofs.Common.{◌≡◌, refl, sym, ap, ◌∙◌, ◌⊎◌, in
 use Rattle.std.specs.Prelude.{filter}
 use Rattle.std.specs.List.{list_any}
 use Rattle.std.proofs.lemmas.Bool.{true≢false, false≢true}
-use Rattle.spark_base.specs.Lists.{Has}
-use Rattle.spark_base.proofs.Lists.{Has-append_left, Has-append_right, Has-append_cases, Has-filter, Has-filter_passes}
-use Rattle.place_names.specs.declared.selector.Sel.{Sel}
-use Rattle.place_names.specs.declared.act.Mode.{Mode}
-use Rattle.place_names.specs.declared.act.Mode.TheVariants as mode
-use Rattle.place_names.specs.declared.act.Act.{Act}
-use Rattle.place_names.specs.declared.act.Act.TheVariants as act
-use Rattle.place_names.specs.declared.fact.Fact.{Fact}
-use Rattle.place_names.specs.declared.fact.Fact.TheVariants.{Lent}
-use Rattle.place_names.specs.declared.rule.Loan.{Loan}
-use Rattle.place_names.specs.declared.rule.Loan.TheVariants.{Borrowed, Observed}
-use Rattle.place_names.specs.declared.rule.Rule.{Rule}
-use Rattle.place_names.specs.Names.{Name, agree_along, agrees_whole, overlaps, strict_fronts, strict_prefixes}
-use Rattle.place_names.specs.Facts.{adds, removes, effect}
-use Rattle.place_names.specs.Rules.{forbidden_if, forbids, breaks_O1, breaks_O3, breaks_O4, breaks_O5, breaks_O6, breaks_O7, breaks_O10, breaks_O14, breaks_O2}
-use Rattle.flow_paths.specs.Effects.{act_reads, act_writes, actual_writes}
-use Rattle.flow_paths.specs.Objects.{Typing, is_borrower, is_package_object}
+use Rattle.machine.specs.spark_base.Lists.{Has}
+use Rattle.soundness.proofs.Lists.{Has-append_left, Has-append_right, Has-append_cases, Has-filter, Has-filter_passes}
+use Rattle.machine.specs.place_names.declared.selector.Sel.{Sel}
+use Rattle.machine.specs.place_names.declared.act.Mode.{Mode}
+use Rattle.machine.specs.place_names.declared.act.Mode.TheVariants as mode
+use Rattle.machine.specs.place_names.declared.act.Act.{Act}
+use Rattle.machine.specs.place_names.declared.act.Act.TheVariants as act
+use Rattle.machine.specs.place_names.declared.fact.Fact.{Fact}
+use Rattle.machine.specs.place_names.declared.fact.Fact.TheVariants.{Lent}
+use Rattle.machine.specs.place_names.declared.rule.Loan.{Loan}
+use Rattle.machine.specs.place_names.declared.rule.Loan.TheVariants.{Borrowed, Observed}
+use Rattle.machine.specs.place_names.declared.rule.Rule.{Rule}
+use Rattle.machine.specs.place_names.Names.{Name, agree_along, agrees_whole, overlaps, strict_fronts, strict_prefixes}
+use Rattle.machine.specs.place_names.Facts.{adds, removes, effect}
+use Rattle.machine.specs.place_names.Rules.{forbidden_if, forbids, breaks_O1, breaks_O3, breaks_O4, breaks_O5, breaks_O6, breaks_O7, breaks_O10, breaks_O14, breaks_O2}
+use Rattle.machine.specs.flow_paths.Effects.{act_reads, act_writes, actual_writes}
+use Rattle.machine.specs.flow_paths.Objects.{Typing, is_borrower, is_package_object}
 use Rattle.soundness.specs.OwnedWays.Ways.{after}
 use Rattle.soundness.proofs.Contents.{bool_cases}
 use Rattle.viewed_steps.proofs.Lent.{ends}

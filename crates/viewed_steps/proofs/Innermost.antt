@@ -1,37 +1,37 @@
 -- The innermost frame of a run, beside those that wait: which acts its facts and theirs allow, where
 -- its variables own, and that the others wait still.
-use Rattle.place_names.specs.declared.act.Act.TheVariants as act
-use Rattle.flow_paths.specs.Views.{sub_acts, traversed_formal}
+use Rattle.machine.specs.place_names.declared.act.Act.TheVariants as act
+use Rattle.machine.specs.flow_paths.Views.{sub_acts, traversed_formal}
 use Rattle.viewed_steps.proofs.Rooted.{own_root}
 use Rattle.viewed_steps.proofs.Traversed.{named_left, named_brought}
 use Rattle.soundness.specs.ViewedSoundness.Holds.{is_view, Seeing}
 use Rattle.soundness.proofs.Lasting.{ownerless}
-use Rattle.typed_tree.specs.declared.object.ObjectKind.{ObjectKind}
-use Rattle.typed_tree.specs.declared.object.ObjectKind.TheVariants as object_kind
+use Rattle.machine.specs.typed_tree.declared.object.ObjectKind.{ObjectKind}
+use Rattle.machine.specs.typed_tree.declared.object.ObjectKind.TheVariants as object_kind
 use Rattle.std.specs.List.{AllByRecursion}
 use Rattle.std.proofs.Common.{Option, append_assoc, flat_map, ◌≡◌, refl, sym, ap, ◌∙◌, subst, ◌⊎◌, inl, inr, ℕ, suc, ◌<◌, Bool, true, false, ◌&&◌, ◌||◌, ◌==◌, eq-eqb, List, [], ◌∷◌, ◌++◌, map, take, drop, length, get_or, arith, Some, None, if◌then◌else◌}
 use Rattle.std.proofs.lemmas.Bool.{false≢true, true≢false}
-use Rattle.spark_base.specs.Lists.{Has}
-use Rattle.spark_base.proofs.Lists.{Has-append_left, Has-append_cases, Has-map_from}
-use Rattle.place_names.specs.declared.act.Act.{Act}
-use Rattle.place_names.specs.declared.act.Placed.{Placed}
-use Rattle.place_names.specs.declared.fact.Fact.{Fact}
-use Rattle.place_names.specs.declared.fact.Fact.TheVariants.{Moved, Lent}
-use Rattle.place_names.specs.declared.rule.Loan.{Loan}
-use Rattle.place_names.specs.declared.rule.Loan.TheVariants.{Borrowed, Observed}
-use Rattle.place_names.specs.Names.{Name as PlaceName, overlaps}
-use Rattle.place_names.specs.Facts.{place}
-use Rattle.type_definitions.specs.Types.{Table, is_owning}
-use Rattle.typed_tree.specs.Trees.{TypedTree}
-use Rattle.typed_tree.specs.Programs.{TypedProgram}
-use Rattle.flow_paths.specs.declared.report.Effects.{Effects}
-use Rattle.flow_paths.specs.Instructions.{Call, Instruction, EndScope}
-use Rattle.flow_paths.specs.Objects.{Typing, object_at, is_anonymous, is_package_object, is_variable, is_borrower, is_observer, is_borrowing, is_observing, has_scope_end, view_of}
-use Rattle.flow_paths.specs.Points.{FlowPoint}
-use Rattle.flow_paths.specs.Laid.{FlowSub, FlowProgram, number_in, flow_sub, typing_of, flow_typing, flow_program, flow_named}
-use Rattle.flow_paths.specs.Effects.{act_reads, act_writes, flow_sub_at, written_by}
-use Rattle.place_names.specs.Rules.{forbids}
-use Rattle.flow_paths.specs.Scopes.{taken, scope_behind, is_within, is_last, is_ready, is_temporary}
+use Rattle.machine.specs.spark_base.Lists.{Has}
+use Rattle.soundness.proofs.Lists.{Has-append_left, Has-append_cases, Has-map_from}
+use Rattle.machine.specs.place_names.declared.act.Act.{Act}
+use Rattle.machine.specs.place_names.declared.act.Placed.{Placed}
+use Rattle.machine.specs.place_names.declared.fact.Fact.{Fact}
+use Rattle.machine.specs.place_names.declared.fact.Fact.TheVariants.{Moved, Lent}
+use Rattle.machine.specs.place_names.declared.rule.Loan.{Loan}
+use Rattle.machine.specs.place_names.declared.rule.Loan.TheVariants.{Borrowed, Observed}
+use Rattle.machine.specs.place_names.Names.{Name as PlaceName, overlaps}
+use Rattle.machine.specs.place_names.Facts.{place}
+use Rattle.machine.specs.type_definitions.Types.{Table, is_owning}
+use Rattle.machine.specs.typed_tree.Trees.{TypedTree}
+use Rattle.machine.specs.typed_tree.Programs.{TypedProgram}
+use Rattle.machine.specs.flow_paths.declared.report.Effects.{Effects}
+use Rattle.machine.specs.flow_paths.Instructions.{Call, Instruction, EndScope}
+use Rattle.machine.specs.flow_paths.Objects.{Typing, object_at, is_anonymous, is_package_object, is_variable, is_borrower, is_observer, is_borrowing, is_observing, has_scope_end, view_of}
+use Rattle.machine.specs.flow_paths.Points.{FlowPoint}
+use Rattle.machine.specs.flow_paths.Laid.{FlowSub, FlowProgram, number_in, flow_sub, typing_of, flow_typing, flow_program, flow_named}
+use Rattle.machine.specs.flow_paths.Effects.{act_reads, act_writes, flow_sub_at, written_by}
+use Rattle.machine.specs.place_names.Rules.{forbids}
+use Rattle.machine.specs.flow_paths.Scopes.{taken, scope_behind, is_within, is_last, is_ready, is_temporary}
 use Rattle.machine.specs.Words as machine
 use Rattle.machine.specs.Memory.{Memory, given_up}
 use Rattle.machine.specs.Evaluate.{Exception}

@@ -1,7 +1,7 @@
 -- The end of a call: the variables of its frame are removed, and what the others have stays.
 use Rattle.std.proofs.Common.{◌≡◌, sym, ap, ◌∙◌, subst, inl, inr, ℕ, false, not, List, [], get_or, append-nil}
 use Rattle.std.proofs.lemmas.Bool.{false≢true}
-use Rattle.flow_paths.specs.Objects.{Typing, object_at}
+use Rattle.machine.specs.flow_paths.Objects.{Typing, object_at}
 use Rattle.machine.specs.Words.{default}
 use Rattle.machine.specs.Words as machine
 use Rattle.machine.specs.Memory.{Memory, Slot, no_slot, variable_slots, without_frame}

@@ -3,32 +3,32 @@
 use Rattle.std.proofs.Common.{◌≡◌, refl, sym, ap, ◌∙◌, subst, ◌⊎◌, inl, inr, ℕ, Bool, true, false, not, ◌&&◌, ◌||◌, ◌==◌, eqb-true, eq-eqb, List, [], ◌∷◌, Option, Some, None, if◌then◌else◌}
 use Rattle.std.specs.Prelude.{flat_map, map}
 use Rattle.std.proofs.lemmas.Bool.{true≢false, false≢true}
-use Rattle.spark_base.specs.Lists.{Has}
-use Rattle.spark_base.proofs.Lists.{Has-append_left, Has-append_right, Has-append_cases}
-use Rattle.place_names.specs.declared.rule.Rule.TheVariants.{A1, O10}
-use Rattle.place_names.specs.declared.act.Act.TheVariants as act
-use Rattle.place_names.specs.declared.act.Mode.{Mode}
-use Rattle.place_names.specs.declared.act.Mode.TheVariants as mode
-use Rattle.place_names.specs.declared.fact.Fact.{Fact}
-use Rattle.place_names.specs.declared.fact.Fact.TheVariants.{Moved, Lent}
-use Rattle.place_names.specs.declared.selector.Sel.{Sel}
-use Rattle.place_names.specs.declared.act.Act.{Act}
-use Rattle.place_names.specs.declared.act.Placed.{Placed}
-use Rattle.place_names.specs.declared.selector.Sel.TheVariants.{Deref}
-use Rattle.place_names.specs.Names.{Name as PlaceName, extend, overlaps, covers, begins, is_prefix, is_equal, agrees, agree_along, has_elem}
-use Rattle.place_names.proofs.Names.{overlaps-sym, both_parts, both_true, is_equal-decides}
-use Rattle.place_names.specs.Facts.{is_moved_under}
-use Rattle.place_names.specs.Reports.{Report}
-use Rattle.place_names.specs.declared.rule.Loan.TheVariants.{Borrowed, Observed}
-use Rattle.place_names.specs.Rules.{moved_or_lent, moved_or_borrowed, breaks_O10}
-use Rattle.typed_tree.specs.Trees.{TypedTree, More}
-use Rattle.type_definitions.specs.Types.{is_owning}
-use Rattle.flow_paths.specs.Objects.{Typing, object_at, is_variable_access, is_named_access, view_of, Place, passing, passing_by}
-use Rattle.flow_paths.specs.Acts.{naming, actual_act, actual_acts}
-use Rattle.flow_paths.specs.Names.{Written, written}
-use Rattle.flow_paths.specs.Views.{is_in_mode, text_report}
-use Rattle.flow_paths.specs.Aliases.{pair_reports, overlap_reports, may_overlap}
-use Rattle.flow_paths.specs.Aliases as alias
+use Rattle.machine.specs.spark_base.Lists.{Has}
+use Rattle.soundness.proofs.Lists.{Has-append_left, Has-append_right, Has-append_cases}
+use Rattle.machine.specs.place_names.declared.rule.Rule.TheVariants.{A1, O10}
+use Rattle.machine.specs.place_names.declared.act.Act.TheVariants as act
+use Rattle.machine.specs.place_names.declared.act.Mode.{Mode}
+use Rattle.machine.specs.place_names.declared.act.Mode.TheVariants as mode
+use Rattle.machine.specs.place_names.declared.fact.Fact.{Fact}
+use Rattle.machine.specs.place_names.declared.fact.Fact.TheVariants.{Moved, Lent}
+use Rattle.machine.specs.place_names.declared.selector.Sel.{Sel}
+use Rattle.machine.specs.place_names.declared.act.Act.{Act}
+use Rattle.machine.specs.place_names.declared.act.Placed.{Placed}
+use Rattle.machine.specs.place_names.declared.selector.Sel.TheVariants.{Deref}
+use Rattle.machine.specs.place_names.Names.{Name as PlaceName, extend, overlaps, covers, begins, is_prefix, is_equal, agrees, agree_along, has_elem}
+use Rattle.soundness.proofs.PlaceNames.{overlaps-sym, both_parts, both_true, is_equal-decides}
+use Rattle.machine.specs.place_names.Facts.{is_moved_under}
+use Rattle.machine.specs.place_names.Reports.{Report}
+use Rattle.machine.specs.place_names.declared.rule.Loan.TheVariants.{Borrowed, Observed}
+use Rattle.machine.specs.place_names.Rules.{moved_or_lent, moved_or_borrowed, breaks_O10}
+use Rattle.machine.specs.typed_tree.Trees.{TypedTree, More}
+use Rattle.machine.specs.type_definitions.Types.{is_owning}
+use Rattle.machine.specs.flow_paths.Objects.{Typing, object_at, is_variable_access, is_named_access, view_of, Place, passing, passing_by}
+use Rattle.machine.specs.flow_paths.Acts.{naming, actual_act, actual_acts}
+use Rattle.machine.specs.flow_paths.Names.{Written, written}
+use Rattle.machine.specs.flow_paths.Views.{is_in_mode, text_report}
+use Rattle.machine.specs.flow_paths.Aliases.{pair_reports, overlap_reports, may_overlap}
+use Rattle.machine.specs.flow_paths.Aliases as alias
 use Rattle.soundness.specs.OwnedWays.Ways.{Allows, AllowsAll, after}
 use Rattle.soundness.proofs.OwnedWays.Assigned.{kept_fact, is_false}
 use Rattle.soundness.proofs.Scalars.{acts, acts_append, allows_both}

@@ -1,7 +1,7 @@
 -- Ways that begin at variables of frames below: what they reach doesn't go by the variables of the innermost frame.
 use Rattle.std.proofs.Common.{◌≡◌, refl, sym, ap, ◌∙◌, subst, inl, inr, ℕ, ◌<◌, List, arith, Some, if◌then◌else◌}
-use Rattle.flow_paths.specs.Instructions.{Instruction}
-use Rattle.flow_paths.specs.Objects.{Typing, object_at, is_package_object}
+use Rattle.machine.specs.flow_paths.Instructions.{Instruction}
+use Rattle.machine.specs.flow_paths.Objects.{Typing, object_at, is_package_object}
 use Rattle.machine.specs.Memory.{Slot, Memory, undeclared}
 use Rattle.machine.specs.States.{Waiting, Leak}
 use Rattle.soundness.specs.OwnedWays.Ways.{Step, OfVariable, OfHand, Loc, OfRoot, OfCell, Inside, Way, Object, Lost, Into, All, View, Reaches, base_of, number_of}

@@ -4,14 +4,14 @@ use Rattle.viewed_steps.proofs.Traversed.{none_given, empty_given, begins_given,
 use Rattle.viewed_steps.specs.Awaited.{lasting_of}
 use Rattle.std.proofs.Common.{◌≡◌, refl, sym, ap, subst, ℕ, zero, suc, Bool, true, false, nat_le, List, [], ◌∷◌, ◌++◌, get_or, inl, inr, Some, None, if◌then◌else◌, ◌∙◌, is_some}
 use Rattle.std.proofs.lemmas.Bool.{false≢true}
-use Rattle.spark_base.specs.Lists.{Has}
-use Rattle.type_definitions.specs.Types.{Table}
-use Rattle.typed_tree.specs.Programs.{TypedProgram}
-use Rattle.flow_paths.specs.declared.report.Effects.{Effects}
-use Rattle.flow_paths.specs.Objects.{Typing, object_at}
-use Rattle.flow_paths.specs.Points.{NamedPoint, FlowPoint}
-use Rattle.flow_paths.specs.Laid.{FlowSub, FlowProgram, flow_sub, typing_of, flow_typing, flow_program}
-use Rattle.flow_paths.specs.Paths.{begins}
+use Rattle.machine.specs.spark_base.Lists.{Has}
+use Rattle.machine.specs.type_definitions.Types.{Table}
+use Rattle.machine.specs.typed_tree.Programs.{TypedProgram}
+use Rattle.machine.specs.flow_paths.declared.report.Effects.{Effects}
+use Rattle.machine.specs.flow_paths.Objects.{Typing, object_at}
+use Rattle.machine.specs.flow_paths.Points.{NamedPoint, FlowPoint}
+use Rattle.machine.specs.flow_paths.Laid.{FlowSub, FlowProgram, flow_sub, typing_of, flow_typing, flow_program}
+use Rattle.machine.specs.flow_paths.Paths.{begins}
 use Rattle.machine.specs.Words as machine
 use Rattle.machine.specs.Memory.{no_slot, variable_slots}
 use Rattle.machine.specs.Evaluate.{StorageError}

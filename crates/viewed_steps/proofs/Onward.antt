@@ -4,14 +4,14 @@ use Rattle.soundness.specs.PartOffsets.Parts.{offset_in}
 use Rattle.soundness.proofs.ViewedSoundness.Names.{parts_same}
 use Rattle.soundness.proofs.ViewedSoundness.ViewKinds.{bundle_view}
 use Rattle.std.proofs.Common.{◌≡◌, refl, sym, ap, ◌∙◌, subst, inl, inr, ℕ, ◌<◌, ◌≤◌, Bool, true, false, List, [], ◌∷◌, ◌++◌, length, get_or, arith, if◌then◌else◌}
-use Rattle.spark_base.specs.Lists.{Has}
-use Rattle.place_names.specs.declared.fact.Fact.TheVariants.{Moved}
-use Rattle.place_names.specs.Names.{Name}
-use Rattle.type_definitions.specs.Types.{Table}
-use Rattle.typed_tree.specs.Programs.{TypedProgram}
-use Rattle.flow_paths.specs.declared.report.Effects.{Effects}
-use Rattle.flow_paths.specs.Objects.{object_at, Typing, is_package_object}
-use Rattle.flow_paths.specs.Laid.{FlowProgram, flow_typing, flow_program}
+use Rattle.machine.specs.spark_base.Lists.{Has}
+use Rattle.machine.specs.place_names.declared.fact.Fact.TheVariants.{Moved}
+use Rattle.machine.specs.place_names.Names.{Name}
+use Rattle.machine.specs.type_definitions.Types.{Table}
+use Rattle.machine.specs.typed_tree.Programs.{TypedProgram}
+use Rattle.machine.specs.flow_paths.declared.report.Effects.{Effects}
+use Rattle.machine.specs.flow_paths.Objects.{object_at, Typing, is_package_object}
+use Rattle.machine.specs.flow_paths.Laid.{FlowProgram, flow_typing, flow_program}
 use Rattle.machine.specs.Words as machine
 use Rattle.machine.specs.Memory.{variable_slots, no_slot, Place}
 use Rattle.machine.specs.States.{Frame, Return, State}

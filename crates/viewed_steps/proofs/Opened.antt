@@ -3,19 +3,19 @@
 use Rattle.std.proofs.Common.{◌≡◌, refl, sym, ◌∙◌, subst, ◌⊎◌, inl, inr, Bool, true, false, not, ◌||◌, ◌==◌, eqb-true, eq-eqb, List, [], ◌∷◌, ap}
 use Rattle.std.specs.List.{list_any}
 use Rattle.std.proofs.lemmas.Bool.{false≢true}
-use Rattle.spark_base.specs.Lists.{Has}
-use Rattle.place_names.specs.declared.selector.Sel.{Sel}
-use Rattle.place_names.specs.declared.selector.Sel.TheVariants.{Field, Elem, Deref}
-use Rattle.place_names.specs.declared.act.Act.TheVariants as act
-use Rattle.place_names.specs.declared.act.Mode.{Mode}
-use Rattle.place_names.specs.declared.act.Mode.TheVariants as mode
-use Rattle.place_names.specs.declared.fact.Fact.{Fact}
-use Rattle.place_names.specs.declared.fact.Fact.TheVariants.{Moved, Lent}
-use Rattle.place_names.specs.declared.rule.Loan.TheVariants.{Borrowed}
-use Rattle.place_names.specs.declared.rule.Rule.TheVariants.{O10}
-use Rattle.place_names.specs.Names.{Name as PlaceName, is_equal, begins, is_prefix, agree_along, agrees_whole, overlaps, leads_to, has_elem, covers, strict_prefixes}
-use Rattle.place_names.specs.Rules.{lent, moved_or_borrowed, moved_or_lent, breaks_O2, breaks_O3, breaks_O10}
-use Rattle.place_names.proofs.Names.{both_parts, both_true}
+use Rattle.machine.specs.spark_base.Lists.{Has}
+use Rattle.machine.specs.place_names.declared.selector.Sel.{Sel}
+use Rattle.machine.specs.place_names.declared.selector.Sel.TheVariants.{Field, Elem, Deref}
+use Rattle.machine.specs.place_names.declared.act.Act.TheVariants as act
+use Rattle.machine.specs.place_names.declared.act.Mode.{Mode}
+use Rattle.machine.specs.place_names.declared.act.Mode.TheVariants as mode
+use Rattle.machine.specs.place_names.declared.fact.Fact.{Fact}
+use Rattle.machine.specs.place_names.declared.fact.Fact.TheVariants.{Moved, Lent}
+use Rattle.machine.specs.place_names.declared.rule.Loan.TheVariants.{Borrowed}
+use Rattle.machine.specs.place_names.declared.rule.Rule.TheVariants.{O10}
+use Rattle.machine.specs.place_names.Names.{Name as PlaceName, is_equal, begins, is_prefix, agree_along, agrees_whole, overlaps, leads_to, has_elem, covers, strict_prefixes}
+use Rattle.machine.specs.place_names.Rules.{lent, moved_or_borrowed, moved_or_lent, breaks_O2, breaks_O3, breaks_O10}
+use Rattle.soundness.proofs.PlaceNames.{both_parts, both_true}
 use Rattle.soundness.specs.OwnedWays.Ways.{Way, Allows, name_of}
 use Rattle.soundness.proofs.Freeing.{switched}
 use Rattle.soundness.proofs.OwnedLoans.Clear.{refused}

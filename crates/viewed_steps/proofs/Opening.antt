@@ -1,19 +1,19 @@
 -- The views of what is called: its formals that own nothing, with the ways of what they are shown.
 use Rattle.std.proofs.Common.{◌≡◌, refl, sym, ap, ◌∙◌, subst, ◌⊎◌, inl, inr, ℕ, suc, ◌<◌, get_or, arith, Bool, true, false, ◌&&◌, ◌==◌, eqb-true, eq-eqb, List, [], ◌∷◌, Option, Some, None, if◌then◌else◌, is_some}
 use Rattle.std.proofs.lemmas.Bool.{false≢true, true≢false}
-use Rattle.spark_base.specs.Lists.{Has}
-use Rattle.place_names.specs.declared.act.Mode.{Mode}
-use Rattle.place_names.specs.declared.act.Mode.TheVariants as mode
-use Rattle.place_names.specs.declared.fact.Fact.{Fact}
-use Rattle.typed_tree.specs.declared.object.ObjectKind.{ObjectKind}
-use Rattle.typed_tree.specs.declared.object.ObjectKind.TheVariants as object_kind
-use Rattle.place_names.specs.Names.{Name as PlaceName}
-use Rattle.place_names.specs.declared.act.Act.{Act}
-use Rattle.typed_tree.specs.Trees.{TypedTree, Name, More}
-use Rattle.flow_paths.specs.Instructions.{Instruction}
-use Rattle.flow_paths.specs.Objects.{Typing, object_at, is_formal, is_formal_kind, is_variable, is_package_object}
-use Rattle.flow_paths.specs.Laid.{FlowProgram, flow_typing}
-use Rattle.flow_paths.specs.Scopes.{is_within, is_temporary}
+use Rattle.machine.specs.spark_base.Lists.{Has}
+use Rattle.machine.specs.place_names.declared.act.Mode.{Mode}
+use Rattle.machine.specs.place_names.declared.act.Mode.TheVariants as mode
+use Rattle.machine.specs.place_names.declared.fact.Fact.{Fact}
+use Rattle.machine.specs.typed_tree.declared.object.ObjectKind.{ObjectKind}
+use Rattle.machine.specs.typed_tree.declared.object.ObjectKind.TheVariants as object_kind
+use Rattle.machine.specs.place_names.Names.{Name as PlaceName}
+use Rattle.machine.specs.place_names.declared.act.Act.{Act}
+use Rattle.machine.specs.typed_tree.Trees.{TypedTree, Name, More}
+use Rattle.machine.specs.flow_paths.Instructions.{Instruction}
+use Rattle.machine.specs.flow_paths.Objects.{Typing, object_at, is_formal, is_formal_kind, is_variable, is_package_object}
+use Rattle.machine.specs.flow_paths.Laid.{FlowProgram, flow_typing}
+use Rattle.machine.specs.flow_paths.Scopes.{is_within, is_temporary}
 use Rattle.machine.specs.Words as machine
 use Rattle.machine.specs.Memory.{Memory, fresh, variable_slots, no_slot}
 use Rattle.machine.specs.Owners.{is_in}
@@ -24,9 +24,9 @@ use Rattle.soundness.specs.OwnedWays.Ways.{Loc, OfCell, Way, Lost, All, View, Re
 use Rattle.soundness.specs.OwnedWays.Ways as ways
 use Rattle.soundness.proofs.OwnedWays.Locations.{under_itself, under_along}
 use Rattle.soundness.specs.PartOffsets.Parts.{IsSettled, has_part, type_in, offset_in}
-use Rattle.type_definitions.specs.declared.table.Shape.{Shape}
-use Rattle.type_definitions.specs.declared.table.Shape.TheVariants as shape
-use Rattle.type_definitions.specs.Types.{shape_of}
+use Rattle.machine.specs.type_definitions.declared.table.Shape.{Shape}
+use Rattle.machine.specs.type_definitions.declared.table.Shape.TheVariants as shape
+use Rattle.machine.specs.type_definitions.Types.{shape_of}
 use Rattle.soundness.specs.Seen.{IsNear, content, trunk, seen, home}
 use Rattle.soundness.specs.Typed.{OwnsByShape, Kept}
 use Rattle.soundness.specs.TypedLaws.Needed.{IndexLaw}
@@ -42,10 +42,10 @@ use Rattle.viewed_steps.proofs.Rooted.{formal_root}
 use Rattle.viewed_steps.specs.Ready.{AreDifferent}
 use Rattle.viewed_steps.proofs.Called.{IsGiven, AreGiven}
 use Rattle.viewed_steps.proofs.Entered.{IsShownTo, HasWords}
-use Rattle.flow_paths.specs.Aliases as alias
+use Rattle.machine.specs.flow_paths.Aliases as alias
 use Rattle.viewed_steps.proofs.Seeing.{Sees, SeesPart, SeesParts, IsCalledBy, named_written}
 use Rattle.viewed_steps.proofs.Lending.{IsNameOf}
-use Rattle.flow_paths.specs.Names.{Written}
+use Rattle.machine.specs.flow_paths.Names.{Written}
 use Rattle.viewed_steps.proofs.Exclusive.{IsLentAs, IsFrom, IsSeenFrom}
 use Rattle.viewed_steps.proofs.Lending.{IsActualOf, actual_named}
 use Rattle.viewed_steps.proofs.Views.{AreLowFormals, AreAccess, not_elsewhere, given_type, given_formal, bundle_given}

@@ -1,9 +1,9 @@
 -- Places that a call takes for formals of mode `out`. Their leak checks are made before any of them is
 -- emptied; what they have then, they have still when they are.
 use Rattle.std.proofs.Common.{◌≡◌, refl, sym, ◌∙◌, subst, inl, inr, ℕ, suc, ◌<◌, List, [], ◌∷◌, ◌++◌}
-use Rattle.spark_base.specs.Lists.{Has}
-use Rattle.spark_base.specs.declared.position.Pos.{Pos}
-use Rattle.flow_paths.specs.Objects.{Typing}
+use Rattle.machine.specs.spark_base.Lists.{Has}
+use Rattle.machine.specs.spark_base.declared.position.Pos.{Pos}
+use Rattle.machine.specs.flow_paths.Objects.{Typing}
 use Rattle.machine.specs.Memory.{Memory, Place}
 use Rattle.machine.specs.States.{Leak}
 use Rattle.soundness.specs.OwnedWays.Ways.{Step, OfVariable, OfRoot, OfCell, Loc, Way, Object, View, Owned, Reaches, Below, Under, part, along}

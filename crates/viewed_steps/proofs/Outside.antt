@@ -1,16 +1,16 @@
 -- What is taken from places of a frame meets nothing that the frames around keep: of package objects, they
 -- keep nothing of those that it begins at.
 use Rattle.std.proofs.Common.{◌≡◌, sym, ap, ◌∙◌, inl, inr, ℕ, true, false, List, ◌⊎◌, Some, ◌++◌, Bool}
-use Rattle.spark_base.specs.Lists.{Has}
-use Rattle.type_definitions.specs.Types.{Table}
-use Rattle.typed_tree.specs.Programs.{TypedProgram}
-use Rattle.place_names.specs.declared.fact.Fact.TheVariants.{Moved}
-use Rattle.place_names.specs.declared.rule.Loan.{Loan}
-use Rattle.place_names.specs.declared.rule.Loan.TheVariants.{Borrowed}
-use Rattle.place_names.specs.Names.{Name}
-use Rattle.flow_paths.specs.declared.report.Effects.{Effects}
-use Rattle.flow_paths.specs.Objects.{Typing, is_package_object}
-use Rattle.flow_paths.specs.Laid.{FlowProgram, flow_program, flow_typing}
+use Rattle.machine.specs.spark_base.Lists.{Has}
+use Rattle.machine.specs.type_definitions.Types.{Table}
+use Rattle.machine.specs.typed_tree.Programs.{TypedProgram}
+use Rattle.machine.specs.place_names.declared.fact.Fact.TheVariants.{Moved}
+use Rattle.machine.specs.place_names.declared.rule.Loan.{Loan}
+use Rattle.machine.specs.place_names.declared.rule.Loan.TheVariants.{Borrowed}
+use Rattle.machine.specs.place_names.Names.{Name}
+use Rattle.machine.specs.flow_paths.declared.report.Effects.{Effects}
+use Rattle.machine.specs.flow_paths.Objects.{Typing, is_package_object}
+use Rattle.machine.specs.flow_paths.Laid.{FlowProgram, flow_program, flow_typing}
 use Rattle.machine.specs.States.{State}
 use Rattle.soundness.specs.OwnedWays.Ways.{Step, OfVariable, OfRoot, Way, Loc, along, base_of, name_of, number_of, Past, Under, Named, View}
 use Rattle.soundness.proofs.OwnedWays.Dropped.{named_base}
@@ -27,7 +27,7 @@ use Rattle.soundness.proofs.OwnedLoans.Others.{under_past}
 use Rattle.soundness.proofs.OwnedLoans.Ways.{under_on, beginnings}
 use Rattle.soundness.specs.OwnedLoans.Views.{Views, expand, AreViews, IsOuter}
 use Rattle.soundness.proofs.OwnedLoans.Meeting.{stands}
-use Rattle.place_names.specs.declared.fact.Fact.{Fact}
+use Rattle.machine.specs.place_names.declared.fact.Fact.{Fact}
 use Rattle.viewed_steps.proofs.Roots.{FromGiven}
 use Rattle.viewed_steps.specs.Seeing.{sees_in}
 

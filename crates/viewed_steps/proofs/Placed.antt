@@ -3,17 +3,17 @@ use Rattle.std.proofs.Common.{◌≡◌, refl, sym, ap, ◌∙◌, subst, ◌⊎
 use Rattle.std.specs.List.{AllByRecursion}
 use Rattle.std.proofs.lemmas.List.Folds.{list_any-append}
 use Rattle.std.proofs.lemmas.Bool.{false≢true, true≢false}
-use Rattle.spark_base.specs.Lists.{Has}
-use Rattle.place_names.specs.declared.fact.Fact.{Fact}
-use Rattle.place_names.specs.declared.fact.Fact.TheVariants.{Lent}
-use Rattle.place_names.specs.declared.rule.Loan.TheVariants.{Observed}
-use Rattle.place_names.specs.Names.{Name as PlaceName}
-use Rattle.type_definitions.specs.Types.{is_owning}
-use Rattle.flow_paths.specs.Instructions.{Instruction, Skip, Declare, Assign, Call, Output, Input, Release, Test, Choose, Start, Next, Evaluate, LeaveLoop, Hold, EndScope, Finish, Fall}
-use Rattle.flow_paths.specs.Objects.{Typing, object_at, is_anonymous, is_package_object, has_scope_end, view_of}
-use Rattle.flow_paths.specs.Laid.{FlowProgram, flow_typing}
-use Rattle.flow_paths.specs.Scopes.{taken, brought, Leads, Silent, is_within, is_temporary}
-use Rattle.flow_paths.specs.Views.{encloses, scope_of}
+use Rattle.machine.specs.spark_base.Lists.{Has}
+use Rattle.machine.specs.place_names.declared.fact.Fact.{Fact}
+use Rattle.machine.specs.place_names.declared.fact.Fact.TheVariants.{Lent}
+use Rattle.machine.specs.place_names.declared.rule.Loan.TheVariants.{Observed}
+use Rattle.machine.specs.place_names.Names.{Name as PlaceName}
+use Rattle.machine.specs.type_definitions.Types.{is_owning}
+use Rattle.machine.specs.flow_paths.Instructions.{Instruction, Skip, Declare, Assign, Call, Output, Input, Release, Test, Choose, Start, Next, Evaluate, LeaveLoop, Hold, EndScope, Finish, Fall}
+use Rattle.machine.specs.flow_paths.Objects.{Typing, object_at, is_anonymous, is_package_object, has_scope_end, view_of}
+use Rattle.machine.specs.flow_paths.Laid.{FlowProgram, flow_typing}
+use Rattle.machine.specs.flow_paths.Scopes.{taken, brought, Leads, Silent, is_within, is_temporary}
+use Rattle.machine.specs.flow_paths.Views.{encloses, scope_of}
 use Rattle.machine.specs.Memory.{Memory}
 use Rattle.machine.specs.Step.{Turn, typing}
 use Rattle.soundness.specs.OwnedWays.Ways.{OfRoot, Held, Way, name_of, number_of, Named, base_of}

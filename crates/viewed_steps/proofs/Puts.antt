@@ -1,14 +1,14 @@
 -- What an actual comes to: a value, or a place, in a variable or in a cell.
 use Rattle.std.proofs.Common.{◌≡◌, refl, sym, ap, ◌∙◌, subst, ◌⊎◌, inl, inr, ℕ, append-nil, Bool, true, false, not, List, [], ◌∷◌, if◌then◌else◌, ◌++◌}
 use Rattle.std.proofs.lemmas.Bool.{false≢true, true≢false}
-use Rattle.spark_base.specs.declared.position.Pos.{Pos}
-use Rattle.place_names.specs.declared.fact.Fact.{Fact}
-use Rattle.type_definitions.specs.Types.{full, is_scalar, is_owning}
-use Rattle.typed_tree.specs.Trees.{TypedTree, Name}
-use Rattle.typed_tree.specs.Trees as typed
-use Rattle.flow_paths.specs.Objects.{object_at, is_anonymous, view_of, ByValue, Typing}
-use Rattle.flow_paths.specs.Names.{waiting as waits_in, name_of, selectors}
-use Rattle.flow_paths.specs.Acts.{acts_in, index_acts}
+use Rattle.machine.specs.spark_base.declared.position.Pos.{Pos}
+use Rattle.machine.specs.place_names.declared.fact.Fact.{Fact}
+use Rattle.machine.specs.type_definitions.Types.{full, is_scalar, is_owning}
+use Rattle.machine.specs.typed_tree.Trees.{TypedTree, Name}
+use Rattle.machine.specs.typed_tree.Trees as typed
+use Rattle.machine.specs.flow_paths.Objects.{object_at, is_anonymous, view_of, ByValue, Typing}
+use Rattle.machine.specs.flow_paths.Names.{waiting as waits_in, name_of, selectors}
+use Rattle.machine.specs.flow_paths.Acts.{acts_in, index_acts}
 use Rattle.machine.specs.Words.{access_offsets, fits_type, component_type}
 use Rattle.machine.specs.Words as machine
 use Rattle.machine.specs.Memory.{Slot, Memory, Base, Place, fresh, no_slot, variable_slots, slots_at, slots_of, words_of, gone_at, with_slots, stored, moved_out, declared}
@@ -55,9 +55,9 @@ use Rattle.viewed_steps.proofs.Direct.{IsDirect, steps_direct, past_none, direct
 use Rattle.viewed_steps.proofs.LaidOut.{IsOwnPut, IsPlainAt, IsOpenActual, IsHousedPut}
 use Rattle.viewed_steps.proofs.Entered.{IsFit}
 use Rattle.soundness.proofs.Keeping.{top_points, scalar}
-use Rattle.place_names.specs.declared.selector.Sel.{Sel}
-use Rattle.place_names.specs.declared.selector.Sel.TheVariants.{Field, Elem, Deref}
-use Rattle.place_names.specs.Names.{Name as PlaceName}
+use Rattle.machine.specs.place_names.declared.selector.Sel.{Sel}
+use Rattle.machine.specs.place_names.declared.selector.Sel.TheVariants.{Field, Elem, Deref}
+use Rattle.machine.specs.place_names.Names.{Name as PlaceName}
 use Rattle.soundness.proofs.OwnedWays.Named.{longer}
 use Rattle.viewed_steps.proofs.Copies.{copy_quiet}
 use Rattle.soundness.proofs.ViewedSoundness.Outcomes.{named_plain}

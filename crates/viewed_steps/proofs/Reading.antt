@@ -1,18 +1,18 @@
 -- The acts of reading what is passed for formals of mode `in`.
 use Rattle.std.proofs.Common.{◌≡◌, refl, sym, ap, ◌∙◌, subst, inl, inr, ℕ, Bool, true, false, List, [], ◌∷◌, ◌++◌, Option, Some, None, if◌then◌else◌}
-use Rattle.spark_base.specs.Lists.{Has}
-use Rattle.spark_base.proofs.Lists.{Has-append_cases}
-use Rattle.place_names.specs.declared.act.Act.{Act}
-use Rattle.place_names.specs.declared.act.Act.TheVariants as act
-use Rattle.place_names.specs.declared.act.Placed.{Placed}
-use Rattle.place_names.specs.Names.{Name as PlaceName}
-use Rattle.place_names.specs.Facts.{adds}
-use Rattle.type_definitions.specs.Types.{full, is_scalar, is_owning, parts, owns_of}
-use Rattle.typed_tree.specs.Trees.{TypedTree, Number, Literal, Text, Name, Component as IntoComponent, Designated, Element, Call, EndOfFile, Parens, Image, Unary, Binary, Short, IsNull, Aggregate, Alike, New, NoMore, More}
-use Rattle.typed_tree.specs.Trees as typed
-use Rattle.flow_paths.specs.Objects.{Typing, object_at}
-use Rattle.flow_paths.specs.Names.{Written, has_call, name_of}
-use Rattle.flow_paths.specs.Acts.{placed, naming, used, acts_in, index_acts}
+use Rattle.machine.specs.spark_base.Lists.{Has}
+use Rattle.soundness.proofs.Lists.{Has-append_cases}
+use Rattle.machine.specs.place_names.declared.act.Act.{Act}
+use Rattle.machine.specs.place_names.declared.act.Act.TheVariants as act
+use Rattle.machine.specs.place_names.declared.act.Placed.{Placed}
+use Rattle.machine.specs.place_names.Names.{Name as PlaceName}
+use Rattle.machine.specs.place_names.Facts.{adds}
+use Rattle.machine.specs.type_definitions.Types.{full, is_scalar, is_owning, parts, owns_of}
+use Rattle.machine.specs.typed_tree.Trees.{TypedTree, Number, Literal, Text, Name, Component as IntoComponent, Designated, Element, Call, EndOfFile, Parens, Image, Unary, Binary, Short, IsNull, Aggregate, Alike, New, NoMore, More}
+use Rattle.machine.specs.typed_tree.Trees as typed
+use Rattle.machine.specs.flow_paths.Objects.{Typing, object_at}
+use Rattle.machine.specs.flow_paths.Names.{Written, has_call, name_of}
+use Rattle.machine.specs.flow_paths.Acts.{placed, naming, used, acts_in, index_acts}
 use Rattle.soundness.specs.Typed.{Matches, OwnsByShape}
 use Rattle.soundness.specs.TypedLaws.Needed.{Stays, Leads, IsPlace as IsPlaceOf}
 use Rattle.soundness.proofs.Passing.{IsRead, AreReads, AddNone, plain_type}

@@ -1,30 +1,30 @@
 -- A return with a value, which waits in the frame of the caller, leads on.
 use Rattle.viewed_steps.proofs.Traversed.{none_given, empty_given}
-use Rattle.flow_paths.specs.Views.{sub_acts}
+use Rattle.machine.specs.flow_paths.Views.{sub_acts}
 use Rattle.viewed_steps.specs.Traversals.{IsSourceIn}
 use Rattle.soundness.proofs.ViewedSoundness.ViewKinds.{plain_named, true_false}
 use Rattle.soundness.specs.ViewedSoundness.Taken.{GivesPlainly, types_taken, AreOfTypes}
 use Rattle.std.proofs.Common.{◌≡◌, refl, sym, ap, ◌∙◌, subst, ◌⊎◌, inl, inr, ℕ, suc, ◌+◌, ◌<◌, Bool, true, false, ◌||◌, List, [], ◌∷◌, ◌++◌, drop, length, get_or, arith, append-nil, Some, None, if◌then◌else◌, take}
-use Rattle.spark_base.specs.Lists.{Has}
-use Rattle.place_names.specs.declared.act.Act.{Act}
-use Rattle.place_names.specs.declared.act.Act.TheVariants as act
-use Rattle.place_names.specs.declared.fact.Fact.{Fact}
-use Rattle.place_names.specs.declared.fact.Fact.TheVariants.{Moved, Lent}
-use Rattle.place_names.specs.declared.rule.Loan.TheVariants.{Observed}
-use Rattle.place_names.specs.Names.{Name as PlaceName}
-use Rattle.type_definitions.specs.Types.{Table, full, words}
-use Rattle.typed_tree.specs.Trees.{TypedTree, NoMore, More, Name, Call as CallIn}
-use Rattle.typed_tree.specs.Programs.{TypedProgram}
-use Rattle.flow_paths.specs.declared.report.Effects.{Effects}
-use Rattle.flow_paths.specs.Instructions.{Instruction, Call, Hold, EndScope, Finish, Declare, Assign}
-use Rattle.flow_paths.specs.Objects.{Typing, is_package_object, is_anonymous}
-use Rattle.flow_paths.specs.Names.{waiting as waits_in}
-use Rattle.flow_paths.specs.Acts as flow
-use Rattle.flow_paths.specs.Acts.{acts_in}
-use Rattle.flow_paths.specs.Laid.{FlowProgram, typing_of, flow_typing, flow_program, flow_named, FlowSub}
-use Rattle.flow_paths.specs.Paths.{ControlPath, PathPoint, path_point, goes_on, facts_before}
-use Rattle.flow_paths.specs.Effects.{path_points}
-use Rattle.flow_paths.specs.Scopes.{taken, brought, scope_behind, is_within}
+use Rattle.machine.specs.spark_base.Lists.{Has}
+use Rattle.machine.specs.place_names.declared.act.Act.{Act}
+use Rattle.machine.specs.place_names.declared.act.Act.TheVariants as act
+use Rattle.machine.specs.place_names.declared.fact.Fact.{Fact}
+use Rattle.machine.specs.place_names.declared.fact.Fact.TheVariants.{Moved, Lent}
+use Rattle.machine.specs.place_names.declared.rule.Loan.TheVariants.{Observed}
+use Rattle.machine.specs.place_names.Names.{Name as PlaceName}
+use Rattle.machine.specs.type_definitions.Types.{Table, full, words}
+use Rattle.machine.specs.typed_tree.Trees.{TypedTree, NoMore, More, Name, Call as CallIn}
+use Rattle.machine.specs.typed_tree.Programs.{TypedProgram}
+use Rattle.machine.specs.flow_paths.declared.report.Effects.{Effects}
+use Rattle.machine.specs.flow_paths.Instructions.{Instruction, Call, Hold, EndScope, Finish, Declare, Assign}
+use Rattle.machine.specs.flow_paths.Objects.{Typing, is_package_object, is_anonymous}
+use Rattle.machine.specs.flow_paths.Names.{waiting as waits_in}
+use Rattle.machine.specs.flow_paths.Acts as flow
+use Rattle.machine.specs.flow_paths.Acts.{acts_in}
+use Rattle.machine.specs.flow_paths.Laid.{FlowProgram, typing_of, flow_typing, flow_program, flow_named, FlowSub}
+use Rattle.machine.specs.flow_paths.Paths.{ControlPath, PathPoint, path_point, goes_on, facts_before}
+use Rattle.machine.specs.flow_paths.Effects.{path_points}
+use Rattle.machine.specs.flow_paths.Scopes.{taken, brought, scope_behind, is_within}
 use Rattle.machine.specs.Words as machine
 use Rattle.machine.specs.Memory.{Memory, given_up}
 use Rattle.machine.specs.Evaluate.{Evaluated, Done, Raises, Traps}
@@ -77,8 +77,8 @@ use Rattle.soundness.proofs.ViewedSoundness.Evaluated.{Given}
 use Rattle.viewed_steps.proofs.Declared.{source_given}
 use Rattle.viewed_steps.proofs.EachInstruction as each
 use Rattle.viewed_steps.proofs.Views.{AreAccess}
-use Rattle.place_names.specs.Facts.{place}
-use Rattle.place_names.specs.declared.rule.Loan.{Loan}
+use Rattle.machine.specs.place_names.Facts.{place}
+use Rattle.machine.specs.place_names.declared.rule.Loan.{Loan}
 use Rattle.viewed_steps.specs.Seeing.{sees_in}
 use Rattle.viewed_steps.proofs.Sees.{sees_seeing}
 use Rattle.viewed_steps.proofs.Constructors.{is_assign_instruction, is_call_instruction, is_declare_instruction, is_end_scope_instruction, is_finish_instruction}

@@ -2,11 +2,11 @@
 -- that sees, or goes on from there.
 use Rattle.std.proofs.Common.{◌≡◌, refl, sym, ap, ◌∙◌, subst, ◌⊎◌, inl, inr, ℕ, Bool, true, false, not, ◌&&◌, ◌||◌, List, Some, IsTrue, Option}
 use Rattle.std.proofs.lemmas.Bool.{false≢true, true≢false}
-use Rattle.place_names.specs.declared.act.Act.{Act}
-use Rattle.typed_tree.specs.declared.object.ObjectKind.{ObjectKind}
-use Rattle.typed_tree.specs.declared.object.ObjectKind.TheVariants as object_kind
-use Rattle.flow_paths.specs.Objects.{Typing, object_at, is_formal_kind, is_variable, is_borrowing, is_observing, view_of}
-use Rattle.flow_paths.specs.Views.{Roots, itself, borrows, observes, IsOnlyRoot, holds_loans}
+use Rattle.machine.specs.place_names.declared.act.Act.{Act}
+use Rattle.machine.specs.typed_tree.declared.object.ObjectKind.{ObjectKind}
+use Rattle.machine.specs.typed_tree.declared.object.ObjectKind.TheVariants as object_kind
+use Rattle.machine.specs.flow_paths.Objects.{Typing, object_at, is_formal_kind, is_variable, is_borrowing, is_observing, view_of}
+use Rattle.machine.specs.flow_paths.Views.{Roots, itself, borrows, observes, IsOnlyRoot, holds_loans}
 use Rattle.soundness.specs.OwnedWays.Ways.{Way, Under}
 use Rattle.soundness.specs.OwnedLoans.Views.{Views, expand}
 use Rattle.soundness.proofs.OwnedLoans.Ways.{under_on, on_under, lifted_way}

@@ -1,12 +1,12 @@
 -- The ways of views of a frame go on from places of owners that are lent.
 use Rattle.std.proofs.Common.{◌≡◌, refl, sym, ap, ◌∙◌, subst, ◌⊎◌, inl, inr, ℕ, zero, suc, ◌<◌, Bool, true, false, List, arith, Some}
 use Rattle.std.proofs.lemmas.Bool.{true≢false}
-use Rattle.spark_base.specs.Lists.{Has}
-use Rattle.place_names.specs.declared.fact.Fact.{Fact}
-use Rattle.place_names.specs.Names.{Name as PlaceName}
-use Rattle.place_names.specs.declared.fact.Fact.TheVariants.{Lent}
-use Rattle.place_names.specs.declared.rule.Loan.{Loan}
-use Rattle.place_names.specs.declared.rule.Loan.TheVariants.{Borrowed, Observed}
+use Rattle.machine.specs.spark_base.Lists.{Has}
+use Rattle.machine.specs.place_names.declared.fact.Fact.{Fact}
+use Rattle.machine.specs.place_names.Names.{Name as PlaceName}
+use Rattle.machine.specs.place_names.declared.fact.Fact.TheVariants.{Lent}
+use Rattle.machine.specs.place_names.declared.rule.Loan.{Loan}
+use Rattle.machine.specs.place_names.declared.rule.Loan.TheVariants.{Borrowed, Observed}
 use Rattle.soundness.specs.OwnedWays.Ways.{Way, Object, Lost, Into, All, View, Under, Named, name_of}
 use Rattle.soundness.specs.OwnedLoans.Views.{on, Views, expand, IsThrough, HasLoan, AreShared, AreViews, IsView, Lifted}
 use Rattle.soundness.proofs.OwnedLoans.Ways.{under_on, on_under, on_named, lifted_root, lifted_way}

@@ -1,13 +1,13 @@
 -- Loops, output, and instructions that change nothing.
 use Rattle.std.proofs.Common.{◌≡◌, refl, sym, ap, ◌∙◌, subst, inl, inr, ℕ, ◌+◌, Bool, true, false, List, [], ◌∷◌, ◌++◌, flat_map, take, drop, length, get_or, append-nil, ℤ, Option, Some, None, if◌then◌else◌}
-use Rattle.place_names.specs.declared.fact.Fact.{Fact}
-use Rattle.type_definitions.specs.Types.{shape_of, words, is_scalar, full}
-use Rattle.typed_tree.specs.Trees.{TypedTree, Text, Parens, Image, Binary, NoMore, More}
-use Rattle.flow_paths.specs.Instructions.{Skip}
-use Rattle.flow_paths.specs.Objects.{Typing, object_at}
-use Rattle.flow_paths.specs.Names.{waiting as waits_in}
-use Rattle.flow_paths.specs.Scopes.{taken}
-use Rattle.flow_paths.specs.Acts.{acts_in}
+use Rattle.machine.specs.place_names.declared.fact.Fact.{Fact}
+use Rattle.machine.specs.type_definitions.Types.{shape_of, words, is_scalar, full}
+use Rattle.machine.specs.typed_tree.Trees.{TypedTree, Text, Parens, Image, Binary, NoMore, More}
+use Rattle.machine.specs.flow_paths.Instructions.{Skip}
+use Rattle.machine.specs.flow_paths.Objects.{Typing, object_at}
+use Rattle.machine.specs.flow_paths.Names.{waiting as waits_in}
+use Rattle.machine.specs.flow_paths.Scopes.{taken}
+use Rattle.machine.specs.flow_paths.Acts.{acts_in}
 use Rattle.machine.specs.Words.{fits_type}
 use Rattle.machine.specs.Words as machine
 use Rattle.machine.specs.Memory.{Memory, Slot, Place, fresh, no_slot, variable_slots, words_of, stored, declared, undeclared}

@@ -2,7 +2,7 @@
 use Rattle.std.specs.Prelude.{get_or, Bool}
 use Rattle.machine.specs.Run.{no_point}
 use Rattle.viewed_steps.proofs.Standing.{or_right}
-use Rattle.flow_paths.specs.Views.{sub_acts}
+use Rattle.machine.specs.flow_paths.Views.{sub_acts}
 use Rattle.soundness.proofs.ViewedSoundness.ViewKinds.{given_view, access_bundle}
 use Rattle.viewed_steps.proofs.Rooted.{rooted_on}
 use Rattle.viewed_steps.proofs.Low.{BeginsLow, given_still, reaches_low, undeclared_words}
@@ -11,23 +11,23 @@ use Rattle.soundness.specs.ViewedSoundness.Holds.{is_view, is_bundle, Seeing}
 use Rattle.soundness.specs.Ready.{Fills, IsSupplied}
 use Rattle.std.proofs.Common.{◌≡◌, refl, sym, ap, ◌∙◌, subst, ◌⊎◌, inl, inr, ℕ, zero, suc, ◌<◌, true, false, List, [], ◌∷◌, ◌++◌, map, drop, length, arith, Some}
 use Rattle.std.proofs.lemmas.Bool.{false≢true}
-use Rattle.spark_base.specs.Lists.{Has}
-use Rattle.place_names.specs.declared.act.Act.{Act}
-use Rattle.place_names.specs.declared.act.Act.TheVariants as act
-use Rattle.place_names.specs.declared.fact.Fact.{Fact}
-use Rattle.place_names.specs.declared.fact.Fact.TheVariants.{Moved, Lent}
-use Rattle.place_names.specs.declared.rule.Loan.{Loan}
-use Rattle.place_names.specs.declared.rule.Loan.TheVariants.{Observed}
-use Rattle.place_names.specs.Names.{Name as PlaceName}
-use Rattle.type_definitions.specs.Types.{Table}
-use Rattle.typed_tree.specs.Programs.{TypedProgram}
-use Rattle.flow_paths.specs.declared.report.Effects.{Effects}
-use Rattle.flow_paths.specs.Instructions.{Instruction, Call, EndScope}
-use Rattle.flow_paths.specs.Objects.{Typing, is_package_object, is_borrower}
-use Rattle.flow_paths.specs.Points.{NamedPoint}
-use Rattle.flow_paths.specs.Laid.{FlowProgram, number_in, flow_typing, flow_program, flow_named}
-use Rattle.place_names.specs.Rules.{forbids}
-use Rattle.flow_paths.specs.Scopes.{taken, brought, scope_behind, is_ready, Leads, is_last}
+use Rattle.machine.specs.spark_base.Lists.{Has}
+use Rattle.machine.specs.place_names.declared.act.Act.{Act}
+use Rattle.machine.specs.place_names.declared.act.Act.TheVariants as act
+use Rattle.machine.specs.place_names.declared.fact.Fact.{Fact}
+use Rattle.machine.specs.place_names.declared.fact.Fact.TheVariants.{Moved, Lent}
+use Rattle.machine.specs.place_names.declared.rule.Loan.{Loan}
+use Rattle.machine.specs.place_names.declared.rule.Loan.TheVariants.{Observed}
+use Rattle.machine.specs.place_names.Names.{Name as PlaceName}
+use Rattle.machine.specs.type_definitions.Types.{Table}
+use Rattle.machine.specs.typed_tree.Programs.{TypedProgram}
+use Rattle.machine.specs.flow_paths.declared.report.Effects.{Effects}
+use Rattle.machine.specs.flow_paths.Instructions.{Instruction, Call, EndScope}
+use Rattle.machine.specs.flow_paths.Objects.{Typing, is_package_object, is_borrower}
+use Rattle.machine.specs.flow_paths.Points.{NamedPoint}
+use Rattle.machine.specs.flow_paths.Laid.{FlowProgram, number_in, flow_typing, flow_program, flow_named}
+use Rattle.machine.specs.place_names.Rules.{forbids}
+use Rattle.machine.specs.flow_paths.Scopes.{taken, brought, scope_behind, is_ready, Leads, is_last}
 use Rattle.machine.specs.Memory.{Memory, undeclared}
 use Rattle.machine.specs.States.{Waiting, Frame, State, Outcome, Goes, Ends, sub_of, Loop}
 use Rattle.machine.specs.Step.{Turn, turn, successor}

@@ -2,16 +2,16 @@
 -- to. Nothing that is gone meets that way, and it is foreign in what is called.
 use Rattle.std.proofs.Common.{arith, ◌≡◌, refl, sym, ap, ◌∙◌, subst, ◌⊎◌, inl, inr, ℕ, Bool, true, false, List, [], ◌∷◌, get_or, Option, Some, None}
 use Rattle.std.proofs.lemmas.Bool.{false≢true}
-use Rattle.spark_base.specs.declared.position.Pos.{Pos}
-use Rattle.place_names.specs.declared.fact.Fact.{Fact}
-use Rattle.place_names.specs.Names.{Name as PlaceName}
-use Rattle.type_definitions.specs.declared.table.Shape.TheVariants as shape
-use Rattle.type_definitions.specs.Types.{shape_of, is_owning, is_scalar, view_of as view_of_shape}
-use Rattle.typed_tree.specs.Trees.{TypedTree, Name, More}
-use Rattle.typed_tree.specs.Trees as typed
-use Rattle.flow_paths.specs.Objects.{Typing, object_at, is_anonymous, view_of}
-use Rattle.flow_paths.specs.Names.{Written, written, waiting as waits_in, name_of}
-use Rattle.flow_paths.specs.Acts.{index_acts}
+use Rattle.machine.specs.spark_base.declared.position.Pos.{Pos}
+use Rattle.machine.specs.place_names.declared.fact.Fact.{Fact}
+use Rattle.machine.specs.place_names.Names.{Name as PlaceName}
+use Rattle.machine.specs.type_definitions.declared.table.Shape.TheVariants as shape
+use Rattle.machine.specs.type_definitions.Types.{shape_of, is_owning, is_scalar, view_of as view_of_shape}
+use Rattle.machine.specs.typed_tree.Trees.{TypedTree, Name, More}
+use Rattle.machine.specs.typed_tree.Trees as typed
+use Rattle.machine.specs.flow_paths.Objects.{Typing, object_at, is_anonymous, view_of}
+use Rattle.machine.specs.flow_paths.Names.{Written, written, waiting as waits_in, name_of}
+use Rattle.machine.specs.flow_paths.Acts.{index_acts}
 use Rattle.machine.specs.Words as machine
 use Rattle.machine.specs.Memory.{Memory, fresh, no_slot, cell}
 use Rattle.machine.specs.Evaluate.{Here, Now, AsView, Evaluated, Done, Raises, Traps, evaluate, viewed}

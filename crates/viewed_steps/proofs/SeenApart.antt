@@ -1,10 +1,10 @@
 -- What a name designates of which nothing is lent meets nothing that an observer sees.
 use Rattle.std.proofs.Common.{◌≡◌, sym, ap, ◌∙◌, subst, inl, inr, ℕ, true, false, List, ◌++◌, Some, Bool}
-use Rattle.place_names.specs.declared.rule.Loan.TheVariants.{Borrowed, Observed}
-use Rattle.place_names.specs.declared.fact.Fact.{Fact}
-use Rattle.place_names.specs.Names.{Name as PlaceName, overlaps}
-use Rattle.place_names.proofs.Names.{overlaps-sym}
-use Rattle.flow_paths.specs.Objects.{Typing}
+use Rattle.machine.specs.place_names.declared.rule.Loan.TheVariants.{Borrowed, Observed}
+use Rattle.machine.specs.place_names.declared.fact.Fact.{Fact}
+use Rattle.machine.specs.place_names.Names.{Name as PlaceName, overlaps}
+use Rattle.soundness.proofs.PlaceNames.{overlaps-sym}
+use Rattle.machine.specs.flow_paths.Objects.{Typing}
 use Rattle.soundness.specs.OwnedWays.Ways.{Step, Way, View, Under, Named, name_of, number_of}
 use Rattle.soundness.proofs.OwnedWays.Named.{longer}
 use Rattle.soundness.specs.OwnedLoans.Views.{Around, Views, expand, HasLoan, Viewed}

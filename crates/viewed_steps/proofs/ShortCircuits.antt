@@ -1,21 +1,21 @@
 -- An operand of a short circuit, whose value waits, leads on.
-use Rattle.flow_paths.specs.Views.{sub_acts}
+use Rattle.machine.specs.flow_paths.Views.{sub_acts}
 use Rattle.viewed_steps.specs.Traversals.{IsSourceIn}
 use Rattle.std.proofs.Common.{◌≡◌, refl, sym, ap, ◌∙◌, subst, ◌⊎◌, inl, inr, ℕ, suc, ◌<◌, Bool, true, false, ◌==◌, List, [], ◌∷◌, ◌++◌, drop, length, arith, Option, Some, None, if◌then◌else◌, take}
-use Rattle.spark_base.specs.Lists.{Has}
-use Rattle.place_names.specs.declared.act.Act.{Act}
-use Rattle.place_names.specs.declared.fact.Fact.{Fact}
-use Rattle.place_names.specs.declared.fact.Fact.TheVariants.{Moved}
-use Rattle.place_names.specs.Names.{Name as PlaceName}
-use Rattle.type_definitions.specs.Types.{Table, is_scalar, full}
-use Rattle.typed_tree.specs.Trees.{TypedTree}
-use Rattle.typed_tree.specs.Programs.{TypedProgram}
-use Rattle.flow_paths.specs.declared.report.Effects.{Effects}
-use Rattle.flow_paths.specs.Instructions.{Instruction, Call, Evaluate, EndScope, Finish}
-use Rattle.flow_paths.specs.Objects.{Typing, is_package_object, object_at}
-use Rattle.flow_paths.specs.Acts.{acts_in}
-use Rattle.flow_paths.specs.Laid.{FlowProgram, flow_typing, flow_program, flow_named}
-use Rattle.flow_paths.specs.Scopes.{taken, brought, scope_behind, is_within}
+use Rattle.machine.specs.spark_base.Lists.{Has}
+use Rattle.machine.specs.place_names.declared.act.Act.{Act}
+use Rattle.machine.specs.place_names.declared.fact.Fact.{Fact}
+use Rattle.machine.specs.place_names.declared.fact.Fact.TheVariants.{Moved}
+use Rattle.machine.specs.place_names.Names.{Name as PlaceName}
+use Rattle.machine.specs.type_definitions.Types.{Table, is_scalar, full}
+use Rattle.machine.specs.typed_tree.Trees.{TypedTree}
+use Rattle.machine.specs.typed_tree.Programs.{TypedProgram}
+use Rattle.machine.specs.flow_paths.declared.report.Effects.{Effects}
+use Rattle.machine.specs.flow_paths.Instructions.{Instruction, Call, Evaluate, EndScope, Finish}
+use Rattle.machine.specs.flow_paths.Objects.{Typing, is_package_object, object_at}
+use Rattle.machine.specs.flow_paths.Acts.{acts_in}
+use Rattle.machine.specs.flow_paths.Laid.{FlowProgram, flow_typing, flow_program, flow_named}
+use Rattle.machine.specs.flow_paths.Scopes.{taken, brought, scope_behind, is_within}
 use Rattle.machine.specs.Words as machine
 use Rattle.machine.specs.Evaluate.{Evaluated, Done, value, Raises, Traps}
 use Rattle.machine.specs.Evaluate as run
@@ -50,8 +50,8 @@ use Rattle.viewed_steps.proofs.Standing as standing
 use Rattle.viewed_steps.proofs.Packages as packages
 use Rattle.viewed_steps.proofs.Innermost as innermost
 use Rattle.std.proofs.lemmas.Bool.{false≢true}
-use Rattle.type_definitions.specs.Entries.{boolean}
-use Rattle.typed_tree.specs.declared.node.ShortCircuit.{ShortCircuit}
+use Rattle.machine.specs.type_definitions.Entries.{boolean}
+use Rattle.machine.specs.typed_tree.declared.node.ShortCircuit.{ShortCircuit}
 use Rattle.soundness.specs.Ready.{IsSupplied, Fills}
 use Rattle.soundness.proofs.Onward.{Gets, value_inside}
 use Rattle.soundness.proofs.Stays.{Quiet, One}

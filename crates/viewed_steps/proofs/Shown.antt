@@ -1,8 +1,8 @@
 -- A formal that owns nothing gets its value: owners see what they saw, and the variables of other views
 -- stay.
 use Rattle.std.proofs.Common.{◌≡◌, refl, sym, ap, ◌∙◌, subst, ◌⊎◌, inl, inr, ℕ, zero, suc, arith, ◌+◌, true, false, not, List, [], ◌∷◌, ◌++◌, take, drop, length, get_or, Bool}
-use Rattle.type_definitions.specs.Types.{shape_of, components_of, words, words_of as shape_words}
-use Rattle.flow_paths.specs.Objects.{Typing, object_at}
+use Rattle.machine.specs.type_definitions.Types.{shape_of, components_of, words, words_of as shape_words}
+use Rattle.machine.specs.flow_paths.Objects.{Typing, object_at}
 use Rattle.machine.specs.Words.{access_offsets}
 use Rattle.machine.specs.Words as machine
 use Rattle.machine.specs.Memory.{Slot, Memory, Base, Place, HeapCell, fresh, cell, no_cell, no_slot, variable_slots, slots_at, slots_of, at_number, gone_at, put, with_slots, words_of, moved_out, declared}

@@ -1,26 +1,26 @@
 -- A frame that stands at a point of a program that is ready: its acts, its facts and its successors.
-use Rattle.place_names.specs.declared.act.Act.TheVariants as act
-use Rattle.place_names.specs.Names.{Name as PlaceName}
-use Rattle.flow_paths.specs.Views.{sub_acts, traversed_formal, IsOnlyRoot}
-use Rattle.spark_base.proofs.Lists.{Has-append_left, Has-append_right}
+use Rattle.machine.specs.place_names.declared.act.Act.TheVariants as act
+use Rattle.machine.specs.place_names.Names.{Name as PlaceName}
+use Rattle.machine.specs.flow_paths.Views.{sub_acts, traversed_formal, IsOnlyRoot}
+use Rattle.soundness.proofs.Lists.{Has-append_left, Has-append_right}
 use Rattle.std.specs.Prelude.{flat_map}
 use Rattle.std.proofs.Common.{◌≡◌, refl, sym, ap, ◌∙◌, subst, inl, inr, ℕ, Bool, true, false, ◌||◌, List, [], ◌∷◌, ◌++◌, length, get_or, append-nil, Option, None, Some}
-use Rattle.spark_base.specs.Lists.{Has}
-use Rattle.place_names.specs.declared.act.Act.{Act}
-use Rattle.place_names.specs.declared.act.Placed.{Placed}
-use Rattle.place_names.specs.declared.fact.Fact.{Fact}
-use Rattle.type_definitions.specs.Types.{Table}
-use Rattle.typed_tree.specs.Trees.{TypedTree}
-use Rattle.typed_tree.specs.Programs.{TypedProgram}
-use Rattle.flow_paths.specs.declared.report.Effects.{Effects}
-use Rattle.flow_paths.specs.Instructions.{Instruction, Skip, Declare, Assign, Call, Output, Input, Release, Test, Choose, Start, Next, Evaluate, LeaveLoop, Hold, EndScope, Finish, Fall}
-use Rattle.flow_paths.specs.Objects.{Typing, Signature, sub_at, is_formal, is_package_object}
-use Rattle.flow_paths.specs.Acts.{acts_of}
-use Rattle.flow_paths.specs.Points.{NamedPoint, FlowPoint}
-use Rattle.flow_paths.specs.Laid.{FlowSub, FlowProgram, NamedSub, flow_sub, kept_roots, sub_facts, typing_of, flow_typing, flow_program, flow_named}
-use Rattle.flow_paths.specs.Paths.{PathPoint, path_point, ControlPath, goes_on, acts_at, facts_before}
-use Rattle.flow_paths.specs.Effects.{path_points, called_acts}
-use Rattle.flow_paths.specs.Scopes.{scope_behind, is_ready, Leads}
+use Rattle.machine.specs.spark_base.Lists.{Has}
+use Rattle.machine.specs.place_names.declared.act.Act.{Act}
+use Rattle.machine.specs.place_names.declared.act.Placed.{Placed}
+use Rattle.machine.specs.place_names.declared.fact.Fact.{Fact}
+use Rattle.machine.specs.type_definitions.Types.{Table}
+use Rattle.machine.specs.typed_tree.Trees.{TypedTree}
+use Rattle.machine.specs.typed_tree.Programs.{TypedProgram}
+use Rattle.machine.specs.flow_paths.declared.report.Effects.{Effects}
+use Rattle.machine.specs.flow_paths.Instructions.{Instruction, Skip, Declare, Assign, Call, Output, Input, Release, Test, Choose, Start, Next, Evaluate, LeaveLoop, Hold, EndScope, Finish, Fall}
+use Rattle.machine.specs.flow_paths.Objects.{Typing, Signature, sub_at, is_formal, is_package_object}
+use Rattle.machine.specs.flow_paths.Acts.{acts_of}
+use Rattle.machine.specs.flow_paths.Points.{NamedPoint, FlowPoint}
+use Rattle.machine.specs.flow_paths.Laid.{FlowSub, FlowProgram, NamedSub, flow_sub, kept_roots, sub_facts, typing_of, flow_typing, flow_program, flow_named}
+use Rattle.machine.specs.flow_paths.Paths.{PathPoint, path_point, ControlPath, goes_on, acts_at, facts_before}
+use Rattle.machine.specs.flow_paths.Effects.{path_points, called_acts}
+use Rattle.machine.specs.flow_paths.Scopes.{scope_behind, is_ready, Leads}
 use Rattle.machine.specs.States.{Waiting, Loop, Frame, State, sub_of, Goes}
 use Rattle.machine.specs.Step.{Turn, turn}
 use Rattle.machine.specs.Owners.{waiting_in}

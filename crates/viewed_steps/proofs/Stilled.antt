@@ -1,9 +1,9 @@
 -- A state where nothing is gone: what names of a frame stand for is the same there. While places are taken,
 -- this is the state that names are compared in.
 use Rattle.std.proofs.Common.{◌≡◌, ap, ℕ, Bool, List}
-use Rattle.place_names.specs.declared.fact.Fact.{Fact}
-use Rattle.place_names.specs.declared.rule.Loan.{Loan}
-use Rattle.place_names.specs.Names.{Name}
+use Rattle.machine.specs.place_names.declared.fact.Fact.{Fact}
+use Rattle.machine.specs.place_names.declared.rule.Loan.{Loan}
+use Rattle.machine.specs.place_names.Names.{Name}
 use Rattle.soundness.specs.OwnedWays.Ways.{Word, Empty, Gone, Held, View, Way, Object, Lost, Into, All, Loc, OfCell, Reaches, Owned, Covered}
 use Rattle.soundness.specs.OwnedLoans.Views.{Around, Views, AreClear, AreViews, AreShared, IsLentToOthers, Viewed}
 use Rattle.soundness.proofs.OwnedLoans.Moves.{parts_on, view_on, reached}

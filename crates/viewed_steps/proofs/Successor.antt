@@ -10,20 +10,20 @@ use Rattle.soundness.proofs.Points.{flow_at, path_there}
 use Rattle.soundness.specs.Sound.{IsNoCall, Stage, IsNamedSub, IsAtPoint}
 use Rattle.std.proofs.Common.{◌≡◌, refl, sym, ◌∙◌, subst, ◌⊎◌, inl, inr, ℕ, true, false, Option, List, ◌∷◌, ap}
 use Rattle.std.proofs.lemmas.Bool.{false≢true}
-use Rattle.spark_base.specs.Lists.{Has}
-use Rattle.place_names.specs.declared.act.Placed.{Placed}
-use Rattle.place_names.specs.declared.fact.Fact.{Fact}
-use Rattle.typed_tree.specs.Trees.{NoMore, More, Name}
-use Rattle.typed_tree.specs.Programs.{TypedProgram}
-use Rattle.type_definitions.specs.Types.{Table}
-use Rattle.flow_paths.specs.declared.report.Effects.{Effects}
-use Rattle.flow_paths.specs.Effects.{path_points, act_writes, act_reads}
-use Rattle.flow_paths.specs.Objects.{is_borrower, is_package_object}
-use Rattle.flow_paths.specs.Instructions.{Instruction, Declare, Assign, Call, Hold}
-use Rattle.flow_paths.specs.Laid.{NamedSub, FlowSub, flow_sub, flow_program, flow_named, typing_of, flow_typing}
-use Rattle.flow_paths.specs.Paths.{ControlPath, goes_on, path_point, facts_before}
-use Rattle.flow_paths.specs.Paths.{PathPoint}
-use Rattle.flow_paths.specs.Points.{NamedPoint}
+use Rattle.machine.specs.spark_base.Lists.{Has}
+use Rattle.machine.specs.place_names.declared.act.Placed.{Placed}
+use Rattle.machine.specs.place_names.declared.fact.Fact.{Fact}
+use Rattle.machine.specs.typed_tree.Trees.{NoMore, More, Name}
+use Rattle.machine.specs.typed_tree.Programs.{TypedProgram}
+use Rattle.machine.specs.type_definitions.Types.{Table}
+use Rattle.machine.specs.flow_paths.declared.report.Effects.{Effects}
+use Rattle.machine.specs.flow_paths.Effects.{path_points, act_writes, act_reads}
+use Rattle.machine.specs.flow_paths.Objects.{is_borrower, is_package_object}
+use Rattle.machine.specs.flow_paths.Instructions.{Instruction, Declare, Assign, Call, Hold}
+use Rattle.machine.specs.flow_paths.Laid.{NamedSub, FlowSub, flow_sub, flow_program, flow_named, typing_of, flow_typing}
+use Rattle.machine.specs.flow_paths.Paths.{ControlPath, goes_on, path_point, facts_before}
+use Rattle.machine.specs.flow_paths.Paths.{PathPoint}
+use Rattle.machine.specs.flow_paths.Points.{NamedPoint}
 use Rattle.machine.specs.States.{State, Frame, sub_of}
 use Rattle.soundness.specs.OwnedWays.Ways.{Way, AllowsAll}
 use Rattle.soundness.specs.OwnedWays.Ways as ways

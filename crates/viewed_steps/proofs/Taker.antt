@@ -3,18 +3,18 @@
 use Rattle.viewed_steps.proofs.Sources.{observer_only}
 use Rattle.soundness.proofs.Contents.{bool_cases}
 use Rattle.soundness.proofs.Scalars.{acts}
-use Rattle.place_names.specs.declared.act.Act.{Act}
-use Rattle.place_names.specs.declared.act.Act.TheVariants as act
-use Rattle.place_names.specs.Names.{Name as PlaceName}
+use Rattle.machine.specs.place_names.declared.act.Act.{Act}
+use Rattle.machine.specs.place_names.declared.act.Act.TheVariants as act
+use Rattle.machine.specs.place_names.Names.{Name as PlaceName}
 use Rattle.std.proofs.Common.{◌≡◌, refl, sym, ap, ◌∙◌, subst, ◌⊎◌, inl, inr, ℕ, Bool, true, false, List, ◌++◌, ◌||◌, ◌&&◌, if◌then◌else◌}
 use Rattle.std.proofs.lemmas.Bool.{true≢false}
-use Rattle.spark_base.specs.declared.position.Pos.{Pos}
-use Rattle.typed_tree.specs.Trees.{NoMore, More, Name}
-use Rattle.flow_paths.specs.Instructions.{Instruction}
-use Rattle.flow_paths.specs.Acts.{Frame, acts_of, acts_in, source_acts, index_acts, reborrow, observe, stored_acts, gives_variable, target_pos, returned_acts}
-use Rattle.flow_paths.specs.Names.{written, source}
-use Rattle.flow_paths.specs.Objects.{Typing, view_of, is_borrowing, is_observing, is_borrower, is_observer}
-use Rattle.place_names.specs.declared.fact.Fact.{Fact}
+use Rattle.machine.specs.spark_base.declared.position.Pos.{Pos}
+use Rattle.machine.specs.typed_tree.Trees.{NoMore, More, Name}
+use Rattle.machine.specs.flow_paths.Instructions.{Instruction}
+use Rattle.machine.specs.flow_paths.Acts.{Frame, acts_of, acts_in, source_acts, index_acts, reborrow, observe, stored_acts, gives_variable, target_pos, returned_acts}
+use Rattle.machine.specs.flow_paths.Names.{written, source}
+use Rattle.machine.specs.flow_paths.Objects.{Typing, view_of, is_borrowing, is_observing, is_borrower, is_observer}
+use Rattle.machine.specs.place_names.declared.fact.Fact.{Fact}
 use Rattle.soundness.specs.OwnedWays.Ways.{Way, AllowsAll, Allows, name_of, number_of}
 use Rattle.soundness.proofs.OwnedLoans.Allowed.{Cleared, borrow_clears, observe_clears, reborrow_clears, give_clears}
 use Rattle.viewed_steps.specs.Traversals.{IsSeer, IsViewTaker, TraversalCall, call_in, traversed_name}

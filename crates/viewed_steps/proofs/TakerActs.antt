@@ -2,17 +2,17 @@
 -- borrows it.
 use Rattle.std.proofs.Common.{◌≡◌, refl, sym, ap, ◌∙◌, subst, ◌⊎◌, inl, inr, ℕ, Bool, true, false, List, ◌++◌, Option, ◌==◌, eq-eqb, if◌then◌else◌}
 use Rattle.std.proofs.lemmas.Bool.{true≢false}
-use Rattle.spark_base.specs.Lists.{Has}
-use Rattle.spark_base.specs.declared.position.Pos.{Pos}
-use Rattle.place_names.specs.declared.act.Act.{Act}
-use Rattle.place_names.specs.declared.act.Act.TheVariants as act
-use Rattle.place_names.specs.declared.act.Placed.{Placed}
-use Rattle.typed_tree.specs.Trees.{NoMore, More, Name}
-use Rattle.flow_paths.specs.Instructions.{Instruction}
-use Rattle.flow_paths.specs.Acts.{Frame, placed, acts_of, acts_in, source_acts, index_acts, reborrow, observe, stored_acts, gives_variable, target_pos}
-use Rattle.flow_paths.specs.Effects.{act_writes, act_reads}
-use Rattle.flow_paths.specs.Names.{written, source}
-use Rattle.flow_paths.specs.Objects.{Typing, is_borrower, is_observer, is_package_object}
+use Rattle.machine.specs.spark_base.Lists.{Has}
+use Rattle.machine.specs.spark_base.declared.position.Pos.{Pos}
+use Rattle.machine.specs.place_names.declared.act.Act.{Act}
+use Rattle.machine.specs.place_names.declared.act.Act.TheVariants as act
+use Rattle.machine.specs.place_names.declared.act.Placed.{Placed}
+use Rattle.machine.specs.typed_tree.Trees.{NoMore, More, Name}
+use Rattle.machine.specs.flow_paths.Instructions.{Instruction}
+use Rattle.machine.specs.flow_paths.Acts.{Frame, placed, acts_of, acts_in, source_acts, index_acts, reborrow, observe, stored_acts, gives_variable, target_pos}
+use Rattle.machine.specs.flow_paths.Effects.{act_writes, act_reads}
+use Rattle.machine.specs.flow_paths.Names.{written, source}
+use Rattle.machine.specs.flow_paths.Objects.{Typing, is_borrower, is_observer, is_package_object}
 use Rattle.soundness.proofs.ViewedSoundness.ViewKinds.{true_false}
 use Rattle.viewed_steps.proofs.Sources.{observer_only}
 use Rattle.viewed_steps.proofs.Taker.{kind_of}

@@ -1,28 +1,28 @@
 -- What a function gave is taken alone where it waits: by an object that owns, by a place, or by a view.
 use Rattle.viewed_steps.proofs.Traversed.{declared_source, assigned_source}
-use Rattle.flow_paths.specs.Views.{sub_acts}
+use Rattle.machine.specs.flow_paths.Views.{sub_acts}
 use Rattle.viewed_steps.specs.Traversals.{GivesView, IsSourceIn}
 use Rattle.viewed_steps.proofs.Sources.{leads_or}
 use Rattle.soundness.proofs.Following.{Each}
 use Rattle.machine.specs.Calls.{checks_at}
-use Rattle.spark_base.specs.declared.position.Pos.{Pos}
+use Rattle.machine.specs.spark_base.declared.position.Pos.{Pos}
 use Rattle.soundness.proofs.ViewedSoundness.ViewKinds.{true_false}
 use Rattle.std.proofs.Common.{◌≡◌, refl, sym, ap, ◌∙◌, subst, ◌⊎◌, inl, inr, ℕ, suc, ◌<◌, Bool, true, false, List, [], ◌∷◌, ◌++◌, drop, length, Some, map}
 use Rattle.std.proofs.lemmas.Bool.{false≢true}
-use Rattle.spark_base.specs.Lists.{Has}
-use Rattle.place_names.specs.declared.act.Act.{Act}
-use Rattle.place_names.specs.declared.fact.Fact.{Fact}
-use Rattle.place_names.specs.declared.fact.Fact.TheVariants.{Moved}
-use Rattle.place_names.specs.Names.{Name as PlaceName}
-use Rattle.type_definitions.specs.Types.{Table, full}
-use Rattle.typed_tree.specs.Trees.{TypedTree, NoMore, More, Name, Call as CallIn}
-use Rattle.typed_tree.specs.Programs.{TypedProgram}
-use Rattle.flow_paths.specs.declared.report.Effects.{Effects}
-use Rattle.flow_paths.specs.Instructions.{Instruction, EndScope, Finish, Declare, Assign}
-use Rattle.flow_paths.specs.Objects.{Typing, is_anonymous, is_package_object, is_observer, view_of, object_at}
-use Rattle.flow_paths.specs.Names.{has_call}
-use Rattle.flow_paths.specs.Laid.{FlowProgram, typing_of, flow_typing, flow_program, number_in}
-use Rattle.flow_paths.specs.Scopes.{taken, brought, scope_behind}
+use Rattle.machine.specs.spark_base.Lists.{Has}
+use Rattle.machine.specs.place_names.declared.act.Act.{Act}
+use Rattle.machine.specs.place_names.declared.fact.Fact.{Fact}
+use Rattle.machine.specs.place_names.declared.fact.Fact.TheVariants.{Moved}
+use Rattle.machine.specs.place_names.Names.{Name as PlaceName}
+use Rattle.machine.specs.type_definitions.Types.{Table, full}
+use Rattle.machine.specs.typed_tree.Trees.{TypedTree, NoMore, More, Name, Call as CallIn}
+use Rattle.machine.specs.typed_tree.Programs.{TypedProgram}
+use Rattle.machine.specs.flow_paths.declared.report.Effects.{Effects}
+use Rattle.machine.specs.flow_paths.Instructions.{Instruction, EndScope, Finish, Declare, Assign}
+use Rattle.machine.specs.flow_paths.Objects.{Typing, is_anonymous, is_package_object, is_observer, view_of, object_at}
+use Rattle.machine.specs.flow_paths.Names.{has_call}
+use Rattle.machine.specs.flow_paths.Laid.{FlowProgram, typing_of, flow_typing, flow_program, number_in}
+use Rattle.machine.specs.flow_paths.Scopes.{taken, brought, scope_behind}
 use Rattle.machine.specs.Words as machine
 use Rattle.machine.specs.Memory.{declared}
 use Rattle.machine.specs.Evaluate.{Done, followed_by, place_of}
@@ -58,9 +58,9 @@ use Rattle.soundness.specs.Ready.{IsSupplied, Fills}
 use Rattle.soundness.proofs.Onward.{GoesOn, declare_follows, assign_follows}
 use Rattle.viewed_steps.proofs.EachInstruction as each
 use Rattle.viewed_steps.proofs.Turned as turned
-use Rattle.flow_paths.specs.Instructions.{Hold}
-use Rattle.flow_paths.specs.Scopes.{is_within}
-use Rattle.type_definitions.specs.Types.{shape_of}
+use Rattle.machine.specs.flow_paths.Instructions.{Hold}
+use Rattle.machine.specs.flow_paths.Scopes.{is_within}
+use Rattle.machine.specs.type_definitions.Types.{shape_of}
 use Rattle.soundness.proofs.Lasting.{less_kept}
 use Rattle.soundness.specs.OwnedWays.Ways as ways
 use Rattle.soundness.specs.OwnedLoans.Views.{on, expand}
@@ -79,7 +79,7 @@ use Rattle.viewed_steps.proofs.Views.{view_ends, anonymous_view}
 use Rattle.viewed_steps.proofs.Sources.{own_there}
 use Rattle.viewed_steps.proofs.Alone as alone_value
 use Rattle.viewed_steps.specs.Traversals.{IsGivenTo, AreGiven, TraversalCall, call_in}
-use Rattle.flow_paths.specs.Objects.{is_variable, sub_at}
+use Rattle.machine.specs.flow_paths.Objects.{is_variable, sub_at}
 use Rattle.viewed_steps.proofs.Views.{AreAccess, all_held}
 use Rattle.viewed_steps.specs.Seeing.{sees_in}
 use Rattle.viewed_steps.proofs.Sees.{sees_seeing}

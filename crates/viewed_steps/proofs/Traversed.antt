@@ -1,26 +1,26 @@
 -- What waits is of no anonymous access type, but where a traversal function has given it; and from step to
 -- step its first formal sees what it saw.
-use Rattle.flow_paths.specs.Views.{traversed_formal, traversed_of}
+use Rattle.machine.specs.flow_paths.Views.{traversed_formal, traversed_of}
 use Rattle.viewed_steps.proofs.Ended.{view_kinds}
 use Rattle.soundness.proofs.Scalars.{acts, acts_append}
-use Rattle.place_names.specs.declared.act.Act.{Act}
-use Rattle.place_names.specs.Names.{Name as PlaceName}
+use Rattle.machine.specs.place_names.declared.act.Act.{Act}
+use Rattle.machine.specs.place_names.Names.{Name as PlaceName}
 use Rattle.std.proofs.Common.{◌≡◌, refl, sym, ap, ◌∙◌, subst, ◌⊎◌, inl, inr, ℕ, zero, suc, ◌+◌, Bool, true, false, List, [], ◌∷◌, ◌++◌, drop, Some, None, if◌then◌else◌, is_some}
 use Rattle.std.proofs.lemmas.Bool.{false≢true, true≢false}
-use Rattle.spark_base.specs.declared.position.Pos.{Pos}
-use Rattle.spark_base.specs.Lists.{Has}
-use Rattle.spark_base.proofs.Lists.{Has-filter, Has-append_right}
-use Rattle.type_definitions.specs.Types.{Table, full, is_scalar, shape_of, is_nil}
-use Rattle.typed_tree.specs.Trees.{TypedTree, NoMore, More, Name, Call as CallIn}
-use Rattle.typed_tree.specs.Programs.{TypedProgram}
-use Rattle.flow_paths.specs.Instructions.{Instruction, Skip, Declare, Assign, Call, Output, Input, Release, Test, Choose, Start, Next, Evaluate, LeaveLoop, Hold, EndScope, Finish, Fall}
-use Rattle.place_names.specs.declared.act.Act.TheVariants as act
-use Rattle.flow_paths.specs.Acts.{acts_in, stored_acts, declared_acts, assigned_to, source_acts, index_acts, reborrow, observe, target_pos as acts_target_pos}
-use Rattle.flow_paths.specs.Objects.{Typing, object_at, is_anonymous, view_of, is_variable, is_borrowing, is_observing, is_borrower, is_observer, traverses}
-use Rattle.flow_paths.specs.Names.{waiting as waits_in, name_of, written, source}
-use Rattle.flow_paths.specs.Points.{NamedPoint}
-use Rattle.flow_paths.specs.Laid.{FlowSub, FlowProgram, flow_typing, flow_program}
-use Rattle.flow_paths.specs.Scopes.{taken, brought}
+use Rattle.machine.specs.spark_base.declared.position.Pos.{Pos}
+use Rattle.machine.specs.spark_base.Lists.{Has}
+use Rattle.soundness.proofs.Lists.{Has-filter, Has-append_right}
+use Rattle.machine.specs.type_definitions.Types.{Table, full, is_scalar, shape_of, is_nil}
+use Rattle.machine.specs.typed_tree.Trees.{TypedTree, NoMore, More, Name, Call as CallIn}
+use Rattle.machine.specs.typed_tree.Programs.{TypedProgram}
+use Rattle.machine.specs.flow_paths.Instructions.{Instruction, Skip, Declare, Assign, Call, Output, Input, Release, Test, Choose, Start, Next, Evaluate, LeaveLoop, Hold, EndScope, Finish, Fall}
+use Rattle.machine.specs.place_names.declared.act.Act.TheVariants as act
+use Rattle.machine.specs.flow_paths.Acts.{acts_in, stored_acts, declared_acts, assigned_to, source_acts, index_acts, reborrow, observe, target_pos as acts_target_pos}
+use Rattle.machine.specs.flow_paths.Objects.{Typing, object_at, is_anonymous, view_of, is_variable, is_borrowing, is_observing, is_borrower, is_observer, traverses}
+use Rattle.machine.specs.flow_paths.Names.{waiting as waits_in, name_of, written, source}
+use Rattle.machine.specs.flow_paths.Points.{NamedPoint}
+use Rattle.machine.specs.flow_paths.Laid.{FlowSub, FlowProgram, flow_typing, flow_program}
+use Rattle.machine.specs.flow_paths.Scopes.{taken, brought}
 use Rattle.machine.specs.States.{Waiting}
 use Rattle.soundness.specs.OwnedWays.Ways.{View}
 use Rattle.soundness.specs.Sound.{IsNoCall, is_temporary_object}

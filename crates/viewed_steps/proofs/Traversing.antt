@@ -1,14 +1,14 @@
 -- The call of a traversal function changes no fact; and its first formal is shown what the first actual designates.
 use Rattle.std.proofs.Common.{◌≡◌, refl, sym, ap, ◌∙◌, subst, inl, inr, ℕ, Bool, true, false, List, [], ◌∷◌, ◌++◌, map, ◌&&◌}
-use Rattle.spark_base.specs.Lists.{Has}
-use Rattle.place_names.specs.declared.act.Mode.{Mode}
-use Rattle.place_names.specs.declared.act.Mode.TheVariants as mode
-use Rattle.place_names.specs.declared.act.Placed.{Placed}
-use Rattle.place_names.specs.declared.fact.Fact.{Fact}
-use Rattle.type_definitions.specs.Types.{is_owning}
-use Rattle.typed_tree.specs.Trees.{TypedTree, More, Name}
-use Rattle.flow_paths.specs.Acts.{actual_values, actual_acts, actual_act, index_acts}
-use Rattle.flow_paths.specs.Objects.{Typing, Passing, Traversed, passing, passing_by, first_traversed, object_at, is_named_access, view_of}
+use Rattle.machine.specs.spark_base.Lists.{Has}
+use Rattle.machine.specs.place_names.declared.act.Mode.{Mode}
+use Rattle.machine.specs.place_names.declared.act.Mode.TheVariants as mode
+use Rattle.machine.specs.place_names.declared.act.Placed.{Placed}
+use Rattle.machine.specs.place_names.declared.fact.Fact.{Fact}
+use Rattle.machine.specs.type_definitions.Types.{is_owning}
+use Rattle.machine.specs.typed_tree.Trees.{TypedTree, More, Name}
+use Rattle.machine.specs.flow_paths.Acts.{actual_values, actual_acts, actual_act, index_acts}
+use Rattle.machine.specs.flow_paths.Objects.{Typing, Passing, Traversed, passing, passing_by, first_traversed, object_at, is_named_access, view_of}
 use Rattle.machine.specs.Words as machine
 use Rattle.machine.specs.Memory.{Memory}
 use Rattle.machine.specs.Calls.{Passed, passed, all_passed}

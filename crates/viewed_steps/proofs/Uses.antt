@@ -2,28 +2,28 @@
 -- to a borrower, or moves one, writes.
 use Rattle.std.proofs.Common.{◌≡◌, refl, sym, ap, ◌∙◌, inl, inr, ℕ, suc, ◌<◌, Bool, true, false, ◌&&◌, ◌||◌, ◌==◌, eq-eqb, List, [], ◌∷◌, drop, length, IsTrue, Option, None}
 use Rattle.std.proofs.lemmas.Bool.{true≢false}
-use Rattle.spark_base.specs.Lists.{Has}
-use Rattle.spark_base.proofs.Lists.{Has-append_cases, Has-map_from}
-use Rattle.place_names.specs.declared.selector.Sel.{Sel}
-use Rattle.place_names.specs.declared.rule.Loan.{Loan}
-use Rattle.place_names.specs.declared.rule.Loan.TheVariants.{Borrowed, Observed}
-use Rattle.place_names.specs.declared.rule.Rule.TheVariants.{O11}
-use Rattle.place_names.specs.Rules.{forbids, breaks_O11}
-use Rattle.place_names.specs.declared.act.Act.{Act}
-use Rattle.place_names.specs.declared.act.Act.TheVariants as act
-use Rattle.place_names.specs.declared.act.Placed.{Placed}
-use Rattle.place_names.specs.declared.fact.Fact.{Fact}
-use Rattle.place_names.specs.declared.fact.Fact.TheVariants.{Moved, Lent}
-use Rattle.place_names.specs.Names.{Name, object, extend, agree_along, overlaps}
-use Rattle.place_names.specs.Facts.{adds}
-use Rattle.typed_tree.specs.declared.object.Object.{Object}
-use Rattle.typed_tree.specs.Trees.{TypedTree}
-use Rattle.flow_paths.specs.declared.report.Effects.{Effects}
-use Rattle.flow_paths.specs.Instructions.{Call}
-use Rattle.flow_paths.specs.Objects.{Typing, is_package_object}
-use Rattle.flow_paths.specs.Points.{FlowPoint}
-use Rattle.flow_paths.specs.Laid.{FlowSub, FlowProgram, flow_typing}
-use Rattle.flow_paths.specs.Effects.{is_in, act_writes, writes_text, point_writes, is_global, own_writes, calls, sub_calls, flow_sub_at, ends, calls_on, AreEffects, read_by, written_by, global_act, globals_from, globals_of}
+use Rattle.machine.specs.spark_base.Lists.{Has}
+use Rattle.soundness.proofs.Lists.{Has-append_cases, Has-map_from}
+use Rattle.machine.specs.place_names.declared.selector.Sel.{Sel}
+use Rattle.machine.specs.place_names.declared.rule.Loan.{Loan}
+use Rattle.machine.specs.place_names.declared.rule.Loan.TheVariants.{Borrowed, Observed}
+use Rattle.machine.specs.place_names.declared.rule.Rule.TheVariants.{O11}
+use Rattle.machine.specs.place_names.Rules.{forbids, breaks_O11}
+use Rattle.machine.specs.place_names.declared.act.Act.{Act}
+use Rattle.machine.specs.place_names.declared.act.Act.TheVariants as act
+use Rattle.machine.specs.place_names.declared.act.Placed.{Placed}
+use Rattle.machine.specs.place_names.declared.fact.Fact.{Fact}
+use Rattle.machine.specs.place_names.declared.fact.Fact.TheVariants.{Moved, Lent}
+use Rattle.machine.specs.place_names.Names.{Name, object, extend, agree_along, overlaps}
+use Rattle.machine.specs.place_names.Facts.{adds}
+use Rattle.machine.specs.typed_tree.declared.object.Object.{Object}
+use Rattle.machine.specs.typed_tree.Trees.{TypedTree}
+use Rattle.machine.specs.flow_paths.declared.report.Effects.{Effects}
+use Rattle.machine.specs.flow_paths.Instructions.{Call}
+use Rattle.machine.specs.flow_paths.Objects.{Typing, is_package_object}
+use Rattle.machine.specs.flow_paths.Points.{FlowPoint}
+use Rattle.machine.specs.flow_paths.Laid.{FlowSub, FlowProgram, flow_typing}
+use Rattle.machine.specs.flow_paths.Effects.{is_in, act_writes, writes_text, point_writes, is_global, own_writes, calls, sub_calls, flow_sub_at, ends, calls_on, AreEffects, read_by, written_by, global_act, globals_from, globals_of}
 use Rattle.soundness.specs.OwnedWays.Ways.{AllowsAll}
 use Rattle.soundness.proofs.Inherited.{global_allowed}
 use Rattle.soundness.proofs.Used.{any_has, used_global, globals_are}

@@ -4,19 +4,19 @@ use Rattle.soundness.specs.ViewedSoundness.Holds.{is_view}
 use Rattle.std.proofs.Common.{◌≡◌, refl, sym, ap, ◌∙◌, subst, ◌⊎◌, inl, inr, ℕ, ◌<◌, ◌≤◌, Bool, true, false, nat_lt, ltb-true, lt-ltb, List, [], ◌∷◌, ◌++◌, length, arith, Some, None, if◌then◌else◌, append-nil, is_some}
 use Rattle.std.specs.Prelude.{flat_map}
 use Rattle.std.proofs.lemmas.Bool.{false≢true}
-use Rattle.spark_base.specs.Lists.{Has}
-use Rattle.spark_base.proofs.Lists.{Has-append_left, Has-append_cases}
-use Rattle.place_names.specs.declared.fact.Fact.{Fact}
-use Rattle.place_names.specs.declared.fact.Fact.TheVariants.{Moved, Lent}
-use Rattle.place_names.specs.declared.rule.Loan.{Loan}
-use Rattle.place_names.specs.declared.rule.Loan.TheVariants.{Borrowed}
-use Rattle.place_names.specs.Names.{Name, object}
-use Rattle.place_names.specs.Facts.{place}
-use Rattle.type_definitions.specs.Types.{Table}
-use Rattle.typed_tree.specs.Programs.{TypedProgram}
-use Rattle.flow_paths.specs.declared.report.Effects.{Effects}
-use Rattle.flow_paths.specs.Objects.{Typing, is_package_object}
-use Rattle.flow_paths.specs.Laid.{FlowProgram, flow_typing, flow_program}
+use Rattle.machine.specs.spark_base.Lists.{Has}
+use Rattle.soundness.proofs.Lists.{Has-append_left, Has-append_cases}
+use Rattle.machine.specs.place_names.declared.fact.Fact.{Fact}
+use Rattle.machine.specs.place_names.declared.fact.Fact.TheVariants.{Moved, Lent}
+use Rattle.machine.specs.place_names.declared.rule.Loan.{Loan}
+use Rattle.machine.specs.place_names.declared.rule.Loan.TheVariants.{Borrowed}
+use Rattle.machine.specs.place_names.Names.{Name, object}
+use Rattle.machine.specs.place_names.Facts.{place}
+use Rattle.machine.specs.type_definitions.Types.{Table}
+use Rattle.machine.specs.typed_tree.Programs.{TypedProgram}
+use Rattle.machine.specs.flow_paths.declared.report.Effects.{Effects}
+use Rattle.machine.specs.flow_paths.Objects.{Typing, is_package_object}
+use Rattle.machine.specs.flow_paths.Laid.{FlowProgram, flow_typing, flow_program}
 use Rattle.machine.specs.States.{Frame, Return, State, sub_of}
 use Rattle.soundness.specs.OwnedWays.Ways.{Loc, IsSame, Step, OfVariable, OfRoot, OfCell, Way, Root, Object, Lost, Into, All, Held, View, Reaches, Under, Named, IsMoved, base_of, number_of, name_of, part, along}
 use Rattle.soundness.proofs.OwnedWays.Locations.{under_itself, under_along}

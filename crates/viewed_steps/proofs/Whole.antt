@@ -3,29 +3,29 @@ use Rattle.std.proofs.Common.{◌≡◌, refl, sym, ap, ◌∙◌, subst, inl, i
 use Rattle.std.specs.Prelude.{filter, flat_map}
 use Rattle.std.specs.List.{list_any}
 use Rattle.std.proofs.lemmas.Bool.{false≢true, true≢false}
-use Rattle.spark_base.specs.Lists.{Has}
-use Rattle.spark_base.specs.declared.position.Pos.{Pos}
-use Rattle.spark_base.proofs.Lists.{Has-append_left, Has-append_right, Has-filter_passes, Has-map, Has-map_from}
-use Rattle.place_names.specs.declared.act.Act.{Act}
-use Rattle.place_names.specs.declared.act.Act.TheVariants as act
-use Rattle.place_names.specs.declared.act.Placed.{Placed}
-use Rattle.place_names.specs.declared.fact.Fact.{Fact}
-use Rattle.place_names.specs.declared.fact.Fact.TheVariants.{Moved}
-use Rattle.place_names.specs.Names.{Name as PlaceName}
-use Rattle.place_names.specs.Facts.{place, adds, is_same_fact}
-use Rattle.place_names.specs.declared.rule.Rule.TheVariants.{O9}
-use Rattle.place_names.specs.Rules.{forbidden_if, forbids, moved_in}
-use Rattle.place_names.proofs.Facts.{is_same_fact-decides}
-use Rattle.typed_tree.specs.declared.object.Object.{Object}
-use Rattle.typed_tree.specs.Programs.{TypedSub}
-use Rattle.flow_paths.specs.declared.report.Effects.{Effects}
-use Rattle.flow_paths.specs.Instructions.{Instruction, Skip, Declare, Assign, Call, Output, Input, Release, Test, Choose, Start, Next, Evaluate, LeaveLoop, Hold, EndScope, Finish, Fall}
-use Rattle.flow_paths.specs.Objects.{Typing, is_formal, is_package_object}
-use Rattle.flow_paths.specs.Acts.{acts_of}
-use Rattle.flow_paths.specs.Points.{NamedPoint, FlowPoint}
-use Rattle.flow_paths.specs.Laid.{FlowSub, FlowProgram, NamedSub, distinct, frame_of, kept_roots, point_acts, sub_facts, flow_sub}
-use Rattle.flow_paths.specs.Paths.{facts_before}
-use Rattle.flow_paths.specs.Effects.{AreEffects, path_points}
+use Rattle.machine.specs.spark_base.Lists.{Has}
+use Rattle.machine.specs.spark_base.declared.position.Pos.{Pos}
+use Rattle.soundness.proofs.Lists.{Has-append_left, Has-append_right, Has-filter_passes, Has-map, Has-map_from}
+use Rattle.machine.specs.place_names.declared.act.Act.{Act}
+use Rattle.machine.specs.place_names.declared.act.Act.TheVariants as act
+use Rattle.machine.specs.place_names.declared.act.Placed.{Placed}
+use Rattle.machine.specs.place_names.declared.fact.Fact.{Fact}
+use Rattle.machine.specs.place_names.declared.fact.Fact.TheVariants.{Moved}
+use Rattle.machine.specs.place_names.Names.{Name as PlaceName}
+use Rattle.machine.specs.place_names.Facts.{place, adds, is_same_fact}
+use Rattle.machine.specs.place_names.declared.rule.Rule.TheVariants.{O9}
+use Rattle.machine.specs.place_names.Rules.{forbidden_if, forbids, moved_in}
+use Rattle.soundness.proofs.PlaceFacts.{is_same_fact-decides}
+use Rattle.machine.specs.typed_tree.declared.object.Object.{Object}
+use Rattle.machine.specs.typed_tree.Programs.{TypedSub}
+use Rattle.machine.specs.flow_paths.declared.report.Effects.{Effects}
+use Rattle.machine.specs.flow_paths.Instructions.{Instruction, Skip, Declare, Assign, Call, Output, Input, Release, Test, Choose, Start, Next, Evaluate, LeaveLoop, Hold, EndScope, Finish, Fall}
+use Rattle.machine.specs.flow_paths.Objects.{Typing, is_formal, is_package_object}
+use Rattle.machine.specs.flow_paths.Acts.{acts_of}
+use Rattle.machine.specs.flow_paths.Points.{NamedPoint, FlowPoint}
+use Rattle.machine.specs.flow_paths.Laid.{FlowSub, FlowProgram, NamedSub, distinct, frame_of, kept_roots, point_acts, sub_facts, flow_sub}
+use Rattle.machine.specs.flow_paths.Paths.{facts_before}
+use Rattle.machine.specs.flow_paths.Effects.{AreEffects, path_points}
 use Rattle.soundness.proofs.Contents.{bool_cases}
 use Rattle.soundness.proofs.Points.{flow_at}
 use Rattle.soundness.proofs.Used.{any_has, fact_added}

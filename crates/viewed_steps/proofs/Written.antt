@@ -1,30 +1,30 @@
 -- A function writes no package object.
 use Rattle.std.proofs.Common.{◌≡◌, refl, sym, ap, ◌∙◌, subst, ◌⊎◌, inl, inr, ℕ, Bool, true, false, ◌&&◌, ◌||◌, ◌==◌, eqb-true, List, [], ◌∷◌, Option, Some, None, is_some}
 use Rattle.std.proofs.lemmas.Bool.{false≢true}
-use Rattle.spark_base.specs.Lists.{Has}
-use Rattle.place_names.specs.declared.act.Act.{Act}
-use Rattle.place_names.specs.declared.act.Act.TheVariants as act
-use Rattle.place_names.specs.declared.act.Mode.{Mode}
-use Rattle.place_names.specs.declared.act.Mode.TheVariants as mode
-use Rattle.place_names.specs.declared.act.Placed.{Placed}
-use Rattle.place_names.specs.declared.rule.Rule.TheVariants.{V1}
-use Rattle.place_names.specs.declared.selector.Sel.TheVariants.{Deref}
-use Rattle.place_names.specs.Names.{Name, extend, object}
-use Rattle.flow_paths.specs.declared.report.Effects.{Effects}
-use Rattle.flow_paths.specs.Instructions.{Instruction, Call}
-use Rattle.flow_paths.specs.Objects.{Typing, is_borrower, is_package_object, traverses}
-use Rattle.flow_paths.specs.Effects.{is_global, act_writes, point_writes, own_writes, writes_text, calls, sub_calls, flow_sub_at, CallChain, ends, calls_on, AreEffects, written_by}
-use Rattle.flow_paths.specs.Views.{is_function, is_outer, in_function, changes, lends, changed, lent, called, MayBorrow, directly, through, traversed_formal, traversed_of, Calls, text_report}
-use Rattle.flow_paths.specs.Points.{FlowPoint}
-use Rattle.flow_paths.specs.Laid.{FlowSub, FlowProgram, NamedSub, flow_sub, typing_of, flow_typing, flow_program, flow_named}
-use Rattle.flow_paths.specs.Reports.{AreReports, on_views}
+use Rattle.machine.specs.spark_base.Lists.{Has}
+use Rattle.machine.specs.place_names.declared.act.Act.{Act}
+use Rattle.machine.specs.place_names.declared.act.Act.TheVariants as act
+use Rattle.machine.specs.place_names.declared.act.Mode.{Mode}
+use Rattle.machine.specs.place_names.declared.act.Mode.TheVariants as mode
+use Rattle.machine.specs.place_names.declared.act.Placed.{Placed}
+use Rattle.machine.specs.place_names.declared.rule.Rule.TheVariants.{V1}
+use Rattle.machine.specs.place_names.declared.selector.Sel.TheVariants.{Deref}
+use Rattle.machine.specs.place_names.Names.{Name, extend, object}
+use Rattle.machine.specs.flow_paths.declared.report.Effects.{Effects}
+use Rattle.machine.specs.flow_paths.Instructions.{Instruction, Call}
+use Rattle.machine.specs.flow_paths.Objects.{Typing, is_borrower, is_package_object, traverses}
+use Rattle.machine.specs.flow_paths.Effects.{is_global, act_writes, point_writes, own_writes, writes_text, calls, sub_calls, flow_sub_at, CallChain, ends, calls_on, AreEffects, written_by}
+use Rattle.machine.specs.flow_paths.Views.{is_function, is_outer, in_function, changes, lends, changed, lent, called, MayBorrow, directly, through, traversed_formal, traversed_of, Calls, text_report}
+use Rattle.machine.specs.flow_paths.Points.{FlowPoint}
+use Rattle.machine.specs.flow_paths.Laid.{FlowSub, FlowProgram, NamedSub, flow_sub, typing_of, flow_typing, flow_program, flow_named}
+use Rattle.machine.specs.flow_paths.Reports.{AreReports, on_views}
 use Rattle.soundness.proofs.Contents.{any_from}
 use Rattle.soundness.proofs.Points.{sub_has, sub_there, sub_at_number, sub_in_range}
 use Rattle.soundness.specs.Sound.{IsNamedSub}
 use Rattle.machine.specs.States.{sub_of}
-use Rattle.type_definitions.specs.Types.{Table}
-use Rattle.typed_tree.specs.Trees.{TypedTree}
-use Rattle.typed_tree.specs.Programs.{TypedProgram}
+use Rattle.machine.specs.type_definitions.Types.{Table}
+use Rattle.machine.specs.typed_tree.Trees.{TypedTree}
+use Rattle.machine.specs.typed_tree.Programs.{TypedProgram}
 
 first : (a b : Bool) → a && b ≡ true → a ≡ true
 first true b e = refl

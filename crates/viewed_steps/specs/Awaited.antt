@@ -1,17 +1,17 @@
 -- What waits in frames: the values of the temporaries in scope, one for each.
 use Rattle.std.specs.Prelude.{◌≡◌, ◌⊎◌, ℕ, Bool, true, false, not, ◌&&◌, List, [], ◌∷◌, ◌++◌, take, filter, length, Option, Some, None, if◌then◌else◌}
 use Rattle.std.specs.List.{AllByRecursion}
-use Rattle.type_definitions.specs.Entries.{boolean}
-use Rattle.type_definitions.specs.Types.{Table, words, full, is_scalar, is_owning}
-use Rattle.typed_tree.specs.Trees.{TypedTree, Name, Call as CallIn, NoMore, More}
-use Rattle.typed_tree.specs.Programs.{TypedProgram}
-use Rattle.spark_base.specs.declared.position.Pos.{Pos}
-use Rattle.flow_paths.specs.Instructions.{Instruction, Declare, Assign, Call, Evaluate, Hold}
-use Rattle.flow_paths.specs.Objects.{Typing, object_at, sub_at, has_scope_end, view_of, is_anonymous}
-use Rattle.flow_paths.specs.Names.{has_call}
-use Rattle.flow_paths.specs.Points.{NamedPoint}
-use Rattle.flow_paths.specs.Laid.{FlowSub, FlowProgram, NamedSub, flow_typing, flow_program, flow_named}
-use Rattle.flow_paths.specs.Scopes.{taken}
+use Rattle.machine.specs.type_definitions.Entries.{boolean}
+use Rattle.machine.specs.type_definitions.Types.{Table, words, full, is_scalar, is_owning}
+use Rattle.machine.specs.typed_tree.Trees.{TypedTree, Name, Call as CallIn, NoMore, More}
+use Rattle.machine.specs.typed_tree.Programs.{TypedProgram}
+use Rattle.machine.specs.spark_base.declared.position.Pos.{Pos}
+use Rattle.machine.specs.flow_paths.Instructions.{Instruction, Declare, Assign, Call, Evaluate, Hold}
+use Rattle.machine.specs.flow_paths.Objects.{Typing, object_at, sub_at, has_scope_end, view_of, is_anonymous}
+use Rattle.machine.specs.flow_paths.Names.{has_call}
+use Rattle.machine.specs.flow_paths.Points.{NamedPoint}
+use Rattle.machine.specs.flow_paths.Laid.{FlowSub, FlowProgram, NamedSub, flow_typing, flow_program, flow_named}
+use Rattle.machine.specs.flow_paths.Scopes.{taken}
 use Rattle.machine.specs.States.{Waiting, sub_of}
 use Rattle.soundness.specs.Sound.{is_temporary_object, has_returned, IsNamedSub, IsAtPoint, IsNoCall, Stage}
 use Rattle.soundness.specs.ViewedSoundness.Taken.{GivesPlainly, types_taken, AreScalarTypes, TakesFit}

@@ -1,27 +1,27 @@
 -- What is asked of an accepted program with borrowers and observers so that its runs are sound: what
 -- typing, the layout and the rules see to. Nothing here speaks of a run.
 use Rattle.machine.specs.Run.{no_point}
-use Rattle.flow_paths.specs.Effects.{path_points}
-use Rattle.flow_paths.specs.Paths.{ControlPath}
-use Rattle.place_names.specs.declared.act.Act.TheVariants.{Give}
-use Rattle.place_names.specs.Names.{Name as PlaceName}
+use Rattle.machine.specs.flow_paths.Effects.{path_points}
+use Rattle.machine.specs.flow_paths.Paths.{ControlPath}
+use Rattle.machine.specs.place_names.declared.act.Act.TheVariants.{Give}
+use Rattle.machine.specs.place_names.Names.{Name as PlaceName}
 use Rattle.std.specs.Prelude.{◌≡◌, ◌⊎◌, ◌<◌, ◌||◌, ℕ, true, false, List, [], ◌∷◌, ◌++◌, map, drop, Option, Some, is_some, Bool, get_or}
-use Rattle.spark_base.specs.Lists.{Has}
-use Rattle.spark_base.specs.declared.position.Pos.{Pos}
-use Rattle.place_names.specs.declared.act.Mode.{Mode}
-use Rattle.place_names.specs.declared.act.Mode.TheVariants as mode
-use Rattle.place_names.specs.declared.act.Placed.{Placed}
-use Rattle.type_definitions.specs.Types.{Table, full, is_scalar, is_owning}
-use Rattle.typed_tree.specs.Trees.{TypedTree, Name, NoMore, More, Null}
-use Rattle.typed_tree.specs.Trees as typed
-use Rattle.typed_tree.specs.Programs.{TypedProgram}
-use Rattle.flow_paths.specs.declared.report.Effects.{Effects}
-use Rattle.flow_paths.specs.Instructions.{Declare, Assign, Call, Input, EndScope, Finish, Hold}
-use Rattle.flow_paths.specs.Objects.{Typing, object_at, sub_at, is_formal, is_variable, is_anonymous, is_observer, is_package_object, view_of, traverses}
-use Rattle.flow_paths.specs.Points.{NamedPoint, FlowPoint}
-use Rattle.flow_paths.specs.Laid.{FlowSub, FlowProgram, NamedSub, number_in, flow_typing, flow_program, flow_named}
-use Rattle.flow_paths.specs.Scopes.{taken, is_within}
-use Rattle.flow_paths.specs.Views.{encloses, scope_of, traversed_formal, sub_acts, IsOnlyRoot}
+use Rattle.machine.specs.spark_base.Lists.{Has}
+use Rattle.machine.specs.spark_base.declared.position.Pos.{Pos}
+use Rattle.machine.specs.place_names.declared.act.Mode.{Mode}
+use Rattle.machine.specs.place_names.declared.act.Mode.TheVariants as mode
+use Rattle.machine.specs.place_names.declared.act.Placed.{Placed}
+use Rattle.machine.specs.type_definitions.Types.{Table, full, is_scalar, is_owning}
+use Rattle.machine.specs.typed_tree.Trees.{TypedTree, Name, NoMore, More, Null}
+use Rattle.machine.specs.typed_tree.Trees as typed
+use Rattle.machine.specs.typed_tree.Programs.{TypedProgram}
+use Rattle.machine.specs.flow_paths.declared.report.Effects.{Effects}
+use Rattle.machine.specs.flow_paths.Instructions.{Declare, Assign, Call, Input, EndScope, Finish, Hold}
+use Rattle.machine.specs.flow_paths.Objects.{Typing, object_at, sub_at, is_formal, is_variable, is_anonymous, is_observer, is_package_object, view_of, traverses}
+use Rattle.machine.specs.flow_paths.Points.{NamedPoint, FlowPoint}
+use Rattle.machine.specs.flow_paths.Laid.{FlowSub, FlowProgram, NamedSub, number_in, flow_typing, flow_program, flow_named}
+use Rattle.machine.specs.flow_paths.Scopes.{taken, is_within}
+use Rattle.machine.specs.flow_paths.Views.{encloses, scope_of, traversed_formal, sub_acts, IsOnlyRoot}
 use Rattle.machine.specs.States.{sub_of}
 use Rattle.machine.specs.Owners.{is_in}
 use Rattle.soundness.specs.Typed.{OwnsByShape}
@@ -32,8 +32,8 @@ use Rattle.soundness.specs.Seen.{is_view_formal}
 use Rattle.soundness.specs.ViewedSoundness.Holds.{is_fixed, AllKeep, IsNamed, IsAccess, is_given, is_bundle}
 use Rattle.viewed_steps.specs.Awaited.{is_held, IsTakenAt, FillsTyped, TakesAlone}
 use Rattle.viewed_steps.specs.Traversals.{IsSourceName, TraversalCall, IsViewTaker}
-use Rattle.type_definitions.specs.declared.table.Shape.TheVariants as shape
-use Rattle.type_definitions.specs.Types.{shape_of}
+use Rattle.machine.specs.type_definitions.declared.table.Shape.TheVariants as shape
+use Rattle.machine.specs.type_definitions.Types.{shape_of}
 use Rattle.viewed_steps.specs.Sound.{IsScalarObject, IsViewClass, Lasts, IsStoredAt}
 use Rattle.viewed_steps.specs.Seeing.{sees_in}
 

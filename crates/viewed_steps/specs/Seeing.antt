@@ -1,11 +1,11 @@
 -- What only sees, of a program: nothing is changed through names that are rooted in it.
 use Rattle.std.specs.Prelude.{ℕ, zero, suc, Bool, false, ◌&&◌, ◌||◌, ◌==◌, List, flat_map}
 use Rattle.std.specs.List.{list_any}
-use Rattle.place_names.specs.declared.act.Act.{Act}
-use Rattle.place_names.specs.declared.act.Act.TheVariants.{Borrow}
-use Rattle.flow_paths.specs.Objects.{Typing, is_borrower}
-use Rattle.flow_paths.specs.Laid.{FlowProgram, flow_typing}
-use Rattle.flow_paths.specs.Views.{sub_acts}
+use Rattle.machine.specs.place_names.declared.act.Act.{Act}
+use Rattle.machine.specs.place_names.declared.act.Act.TheVariants.{Borrow}
+use Rattle.machine.specs.flow_paths.Objects.{Typing, is_borrower}
+use Rattle.machine.specs.flow_paths.Laid.{FlowProgram, flow_typing}
+use Rattle.machine.specs.flow_paths.Views.{sub_acts}
 use Rattle.soundness.specs.ViewedSoundness.Holds.{sees_only}
 
 -- An object is declared as a borrower of what is as asked.

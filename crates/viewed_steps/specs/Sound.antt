@@ -5,28 +5,28 @@
 use Rattle.std.specs.List.{AllByRecursion, list_any}
 use Rattle.viewed_steps.specs.Traversals.{AreRooted, SeesFirst, AreGiven}
 use Rattle.std.specs.Prelude.{◌≡◌, ◌⊎◌, ◌<◌, ℕ, true, false, List, [], ◌∷◌, ◌++◌, map, flat_map, get_or, Option, Some, None, suc, is_some, ◌&&◌, if◌then◌else◌, ◌==◌, Bool, not, filter}
-use Rattle.spark_base.specs.Lists.{Has}
-use Rattle.spark_base.specs.declared.position.Pos.{Pos}
-use Rattle.place_names.specs.declared.act.Mode.TheVariants as mode
-use Rattle.place_names.specs.declared.fact.Fact.{Fact}
-use Rattle.place_names.specs.Facts.{place}
-use Rattle.place_names.specs.declared.fact.Fact.TheVariants.{Moved, Lent}
-use Rattle.place_names.specs.declared.rule.Loan.{Loan}
-use Rattle.place_names.specs.declared.rule.Loan.TheVariants.{Borrowed, Observed}
-use Rattle.place_names.specs.Names.{Name as PlaceName, overlaps, object, covers}
-use Rattle.type_definitions.specs.Types.{Table, full, is_scalar, is_owning}
-use Rattle.typed_tree.specs.Trees.{TypedTree, Name, NoMore}
-use Rattle.typed_tree.specs.Programs.{TypedProgram}
-use Rattle.flow_paths.specs.declared.report.Effects.{Effects}
-use Rattle.flow_paths.specs.Instructions.{Instruction, Declare, Assign, Call, EndScope, Finish}
-use Rattle.flow_paths.specs.Objects.{Typing, object_at, sub_at, is_formal, is_observer, is_named_access, view_of, is_package_object, has_scope_end, is_anonymous}
-use Rattle.flow_paths.specs.Points.{NamedPoint}
-use Rattle.flow_paths.specs.Laid.{FlowSub, FlowProgram, NamedSub, flow_typing, flow_program, flow_named}
-use Rattle.flow_paths.specs.Paths.{ControlPath}
-use Rattle.flow_paths.specs.Effects.{written_by, path_points}
-use Rattle.flow_paths.specs.Scopes.{is_within}
-use Rattle.flow_paths.specs.Aliases as alias
-use Rattle.flow_paths.specs.Views.{encloses, scope_of, traversed_formal, sub_acts}
+use Rattle.machine.specs.spark_base.Lists.{Has}
+use Rattle.machine.specs.spark_base.declared.position.Pos.{Pos}
+use Rattle.machine.specs.place_names.declared.act.Mode.TheVariants as mode
+use Rattle.machine.specs.place_names.declared.fact.Fact.{Fact}
+use Rattle.machine.specs.place_names.Facts.{place}
+use Rattle.machine.specs.place_names.declared.fact.Fact.TheVariants.{Moved, Lent}
+use Rattle.machine.specs.place_names.declared.rule.Loan.{Loan}
+use Rattle.machine.specs.place_names.declared.rule.Loan.TheVariants.{Borrowed, Observed}
+use Rattle.machine.specs.place_names.Names.{Name as PlaceName, overlaps, object, covers}
+use Rattle.machine.specs.type_definitions.Types.{Table, full, is_scalar, is_owning}
+use Rattle.machine.specs.typed_tree.Trees.{TypedTree, Name, NoMore}
+use Rattle.machine.specs.typed_tree.Programs.{TypedProgram}
+use Rattle.machine.specs.flow_paths.declared.report.Effects.{Effects}
+use Rattle.machine.specs.flow_paths.Instructions.{Instruction, Declare, Assign, Call, EndScope, Finish}
+use Rattle.machine.specs.flow_paths.Objects.{Typing, object_at, sub_at, is_formal, is_observer, is_named_access, view_of, is_package_object, has_scope_end, is_anonymous}
+use Rattle.machine.specs.flow_paths.Points.{NamedPoint}
+use Rattle.machine.specs.flow_paths.Laid.{FlowSub, FlowProgram, NamedSub, flow_typing, flow_program, flow_named}
+use Rattle.machine.specs.flow_paths.Paths.{ControlPath}
+use Rattle.machine.specs.flow_paths.Effects.{written_by, path_points}
+use Rattle.machine.specs.flow_paths.Scopes.{is_within}
+use Rattle.machine.specs.flow_paths.Aliases as alias
+use Rattle.machine.specs.flow_paths.Views.{encloses, scope_of, traversed_formal, sub_acts}
 use Rattle.machine.specs.Words.{Cell}
 use Rattle.machine.specs.Memory.{Memory, variable_slots, no_slot}
 use Rattle.machine.specs.States.{Return, Waiting, Frame, State, Outcome, Goes, Ends, sub_of}

@@ -2,14 +2,14 @@
 --
 -- While the call is in progress, the formal owns what the place had, and the place has no number.
 use Rattle.std.specs.Prelude.{◌≡◌, ◌⊎◌, ◌<◌, ℕ, true, false, List, [], ◌∷◌, ◌++◌, suc, Bool}
-use Rattle.spark_base.specs.Lists.{Has}
-use Rattle.place_names.specs.declared.fact.Fact.{Fact}
-use Rattle.place_names.specs.declared.fact.Fact.TheVariants.{Moved, Lent}
-use Rattle.place_names.specs.declared.rule.Loan.{Loan}
-use Rattle.place_names.specs.Names.{Name as PlaceName, overlaps, covers}
-use Rattle.type_definitions.specs.Types.{full, is_scalar, is_owning}
-use Rattle.flow_paths.specs.Objects.{Typing, object_at, designated, is_package_object}
-use Rattle.flow_paths.specs.Scopes.{is_within}
+use Rattle.machine.specs.spark_base.Lists.{Has}
+use Rattle.machine.specs.place_names.declared.fact.Fact.{Fact}
+use Rattle.machine.specs.place_names.declared.fact.Fact.TheVariants.{Moved, Lent}
+use Rattle.machine.specs.place_names.declared.rule.Loan.{Loan}
+use Rattle.machine.specs.place_names.Names.{Name as PlaceName, overlaps, covers}
+use Rattle.machine.specs.type_definitions.Types.{full, is_scalar, is_owning}
+use Rattle.machine.specs.flow_paths.Objects.{Typing, object_at, designated, is_package_object}
+use Rattle.machine.specs.flow_paths.Scopes.{is_within}
 use Rattle.machine.specs.Memory.{Memory, Place}
 use Rattle.machine.specs.Memory as memory
 use Rattle.machine.specs.States.{Return}

@@ -3,18 +3,18 @@
 -- A result is looked at where it stands, as what its first actual designates is. So a name of the
 -- caller leads to its cell, which goes on from the first actual.
 use Rattle.std.specs.Prelude.{◌≡◌, ◌⊎◌, ℕ, Bool, true, false, List, [], ◌∷◌, Some, Option}
-use Rattle.spark_base.specs.Lists.{Has}
-use Rattle.spark_base.specs.declared.position.Pos.{Pos}
-use Rattle.place_names.specs.Names.{Name as PlaceName}
-use Rattle.place_names.specs.declared.act.Act.{Act}
-use Rattle.place_names.specs.declared.act.Act.TheVariants.{Borrow, Observe}
-use Rattle.type_definitions.specs.declared.table.Shape.TheVariants as shape
-use Rattle.type_definitions.specs.Types.{shape_of, full}
-use Rattle.typed_tree.specs.Trees.{TypedTree, Name, NoMore, Call as CallIn, More}
-use Rattle.flow_paths.specs.Instructions.{Instruction, Declare, Assign, Hold}
-use Rattle.flow_paths.specs.Objects.{Typing, sub_at, object_at, is_variable, is_observer, view_of, traverses, is_anonymous}
-use Rattle.flow_paths.specs.Names.{name_of}
-use Rattle.flow_paths.specs.Views.{Roots}
+use Rattle.machine.specs.spark_base.Lists.{Has}
+use Rattle.machine.specs.spark_base.declared.position.Pos.{Pos}
+use Rattle.machine.specs.place_names.Names.{Name as PlaceName}
+use Rattle.machine.specs.place_names.declared.act.Act.{Act}
+use Rattle.machine.specs.place_names.declared.act.Act.TheVariants.{Borrow, Observe}
+use Rattle.machine.specs.type_definitions.declared.table.Shape.TheVariants as shape
+use Rattle.machine.specs.type_definitions.Types.{shape_of, full}
+use Rattle.machine.specs.typed_tree.Trees.{TypedTree, Name, NoMore, Call as CallIn, More}
+use Rattle.machine.specs.flow_paths.Instructions.{Instruction, Declare, Assign, Hold}
+use Rattle.machine.specs.flow_paths.Objects.{Typing, sub_at, object_at, is_variable, is_observer, view_of, traverses, is_anonymous}
+use Rattle.machine.specs.flow_paths.Names.{name_of}
+use Rattle.machine.specs.flow_paths.Views.{Roots}
 use Rattle.machine.specs.Words as machine
 use Rattle.machine.specs.States.{Waiting}
 use Rattle.soundness.specs.OwnedWays.Ways.{OfCell, Way, All, View, Reaches, Under, Named}

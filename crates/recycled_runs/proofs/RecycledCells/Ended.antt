@@ -1,15 +1,15 @@
 -- A step that ends a run leaves each cell of the machine that isn't freed as it was.
 use Rattle.std.proofs.Common.{◌≡◌, refl, sym, ap, subst, ℕ, suc, Bool, true, false, not, ◌&&◌, List, [], ◌∷◌, ◌++◌, map, drop, length, get_or, nat_le, nat_lt, Option, Some, None, ℤ, if◌then◌else◌}
 use Rattle.std.specs.Prelude.{int_le}
-use Rattle.typed_tree.specs.Trees.{TypedTree, More}
-use Rattle.flow_paths.specs.Instructions.{Instruction, Skip, Declare, Assign, Call, Output, Input, Release, Test, Choose, Start, Next, Evaluate, LeaveLoop, Hold, EndScope, Finish, Fall}
-use Rattle.flow_paths.specs.Objects.{object_at, designated, passings, sub_at}
-use Rattle.flow_paths.specs.Names.{written, first}
-use Rattle.flow_paths.specs.Laid.{FlowProgram}
-use Rattle.flow_paths.specs.Points.{FlowPoint}
-use Rattle.run_values.specs.declared.items.Item.{Item}
-use Rattle.run_values.specs.declared.items.Item.TheVariants as item
-use Rattle.run_values.specs.Items.{next_item}
+use Rattle.machine.specs.typed_tree.Trees.{TypedTree, More}
+use Rattle.machine.specs.flow_paths.Instructions.{Instruction, Skip, Declare, Assign, Call, Output, Input, Release, Test, Choose, Start, Next, Evaluate, LeaveLoop, Hold, EndScope, Finish, Fall}
+use Rattle.machine.specs.flow_paths.Objects.{object_at, designated, passings, sub_at}
+use Rattle.machine.specs.flow_paths.Names.{written, first}
+use Rattle.machine.specs.flow_paths.Laid.{FlowProgram}
+use Rattle.machine.specs.flow_paths.Points.{FlowPoint}
+use Rattle.kept_cells.specs.run_values.declared.items.Item.{Item}
+use Rattle.kept_cells.specs.run_values.declared.items.Item.TheVariants as item
+use Rattle.kept_cells.specs.run_values.Items.{next_item}
 use Rattle.machine.specs.Words.{Word, Int, Null, Cell, fits_type}
 use Rattle.machine.specs.Memory.{Memory, Place, HeapCell, cell, words_of, stored, declared, without_frame, freed, as_freed}
 use Rattle.machine.specs.Evaluate.{Exception, ConstraintError, ProgramError, StorageError, DataError, EndError, Twice, Evaluated, Done, Raises, Traps, followed_by, value, place_of, text_of, cell_place, variable_place, is_true, decides}

@@ -2,11 +2,11 @@
 use Rattle.std.proofs.Common.{◌≡◌, refl, ap, ◌∙◌, ℕ, zero, suc, ◌==◌, Bool, true, false, true≢false, arith, List, [], ◌∷◌, map, Some, None, pos, if◌then◌else◌}
 use Rattle.std.proofs.lemmas.Bool.{false≢true}
 use Rattle.std.specs.Prelude.{is_some}
-use Rattle.run_values.specs.declared.value.Value.{Value}
-use Rattle.run_values.specs.declared.value.Value.TheVariants as value
+use Rattle.kept_cells.specs.run_values.declared.value.Value.{Value}
+use Rattle.kept_cells.specs.run_values.declared.value.Value.TheVariants as value
 use Rattle.machine.specs.Words.{Word, Int, Null, Cell}
 use Rattle.machine.specs.Memory.{Slot, HeapCell}
-use Rattle.slot_heap.specs.Heaps.{Heap, words_at}
+use Rattle.numbered_cells.specs.slot_heap.Heaps.{Heap, words_at}
 use Rattle.recycled_runs.specs.RecycledCells.Cells.{handled_slot, IsThere, IsBack, HasCells}
 
 abbrev there : Word → Slot

@@ -2,16 +2,16 @@
 use Rattle.std.proofs.Common.{◌≡◌, refl, sym, ap, ◌∙◌, subst, ℕ, zero, suc, Bool, true, false, nat_le, List, [], ◌∷◌, ◌++◌, length, None, Option, Some, ℤ, if◌then◌else◌}
 use Rattle.std.proofs.lemmas.Bool.{false≢true}
 use Rattle.std.specs.Prelude.{is_some}
-use Rattle.type_definitions.specs.Types.{Table}
-use Rattle.run_values.specs.declared.value.Kind.{Kind}
-use Rattle.flow_paths.specs.Laid.{FlowProgram, flow_typing}
+use Rattle.machine.specs.type_definitions.Types.{Table}
+use Rattle.kept_cells.specs.run_values.declared.value.Kind.{Kind}
+use Rattle.machine.specs.flow_paths.Laid.{FlowProgram, flow_typing}
 use Rattle.machine.specs.Memory.{Memory, OfCell}
 use Rattle.machine.specs.Evaluate.{StorageError}
 use Rattle.machine.specs.States.{Ending, Normal, Raised, Spent, Trapped, sub_of, state_of, frame_words, stack_words, frame_at_start}
 use Rattle.machine.specs.States as machine
 use Rattle.machine.specs.Run.{ended, then_on, within, empty_memory}
 use Rattle.machine.specs.Run as machine_run
-use Rattle.slot_heap.specs.Heaps.{no_heap}
+use Rattle.numbered_cells.specs.slot_heap.Heaps.{no_heap}
 use Rattle.soundness.specs.PartOffsets.Parts.{IsSettled}
 use Rattle.recycled_runs.specs.ViewedFacts.NullPlaces.Cleared.{cleared_state}
 use Rattle.recycled_runs.specs.ViewedFacts.NullPlaces.Agrees.{Agrees, SameState}

@@ -2,15 +2,15 @@
 use Rattle.std.proofs.Common.{◌≡◌, refl, sym, ap, ◌∙◌, subst, inl, inr, ℕ, zero, suc, ◌<◌, ◌-◌, arith, Bool, true, false, true≢false, nat_lt, List, [], ◌∷◌, ◌++◌, map, length, get_or, slice_get, Some, None, pos, negsuc, if◌then◌else◌}
 use Rattle.std.proofs.lemmas.Bool.{false≢true}
 use Rattle.std.specs.Prelude.{is_some}
-use Rattle.type_definitions.specs.Types.{Table}
-use Rattle.run_values.specs.declared.value.Value.{Value}
-use Rattle.run_values.specs.declared.value.Value.TheVariants as value
-use Rattle.run_values.specs.declared.value.Kind.TheVariants as sort
-use Rattle.run_values.specs.Values.{kind}
+use Rattle.machine.specs.type_definitions.Types.{Table}
+use Rattle.kept_cells.specs.run_values.declared.value.Value.{Value}
+use Rattle.kept_cells.specs.run_values.declared.value.Value.TheVariants as value
+use Rattle.kept_cells.specs.run_values.declared.value.Kind.TheVariants as sort
+use Rattle.kept_cells.specs.run_values.Values.{kind}
 use Rattle.machine.specs.Typed.{Sort, Whole, Position, Pointer, sorts}
 use Rattle.machine.specs.Memory.{Slot, HeapCell, Memory, no_slot, no_cell, cell, as_freed}
-use Rattle.slot_heap.specs.Heaps.{Heap, words_at}
-use Rattle.slot_heap.specs.Heaps as heaps
+use Rattle.numbered_cells.specs.slot_heap.Heaps.{Heap, words_at}
+use Rattle.numbered_cells.specs.slot_heap.Heaps as heaps
 use Rattle.kept_cells.specs.Cells.{Cell}
 use Rattle.numbered_cells.specs.Follows as numbered
 use Rattle.numbered_cells.specs.Follows.{handled, Follows}

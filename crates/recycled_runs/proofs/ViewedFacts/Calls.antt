@@ -1,9 +1,9 @@
 -- What is called moved stays so in calls and their ends: it is in no place that a call takes.
 use Rattle.std.proofs.Common.{◌≡◌, sym, ap, ◌∙◌, subst, ◌⊎◌, inl, inr, ℕ, suc, ◌<◌, Bool, true, false, List, [], ◌∷◌, length, append-nil, arith, if◌then◌else◌}
-use Rattle.spark_base.specs.Lists.{Has}
-use Rattle.place_names.specs.declared.fact.Fact.{Fact}
-use Rattle.place_names.specs.declared.rule.Loan.TheVariants.{Borrowed}
-use Rattle.flow_paths.specs.Objects.{Typing, is_package_object}
+use Rattle.machine.specs.spark_base.Lists.{Has}
+use Rattle.machine.specs.place_names.declared.fact.Fact.{Fact}
+use Rattle.machine.specs.place_names.declared.rule.Loan.TheVariants.{Borrowed}
+use Rattle.machine.specs.flow_paths.Objects.{Typing, is_package_object}
 use Rattle.machine.specs.Memory.{Memory}
 use Rattle.machine.specs.States.{Frame}
 use Rattle.soundness.specs.OwnedWays.Ways.{Step, Root, OfVariable, Loc, OfRoot, OfCell, Inside, Way, Object, Lost, Into, All, Gone, Held, View, part, along, Reaches, Under, Told, base_of, number_of, name_of, Named}
@@ -17,9 +17,9 @@ use Rattle.soundness.proofs.OwnedLoans.Meeting.{Lends, meeting}
 use Rattle.soundness.proofs.OwnedLoans.Ways.{Meet, flip, meet_overlaps, under_on}
 use Rattle.soundness.specs.OwnedLoans.Views.{AreShared, HasLoan}
 use Rattle.soundness.proofs.OwnedWays.Named.{longer}
-use Rattle.place_names.specs.declared.rule.Loan.{Loan}
-use Rattle.place_names.specs.declared.fact.Fact.TheVariants.{Moved, Lent}
-use Rattle.place_names.specs.Names.{Name as PlaceName, overlaps, covers}
+use Rattle.machine.specs.place_names.declared.rule.Loan.{Loan}
+use Rattle.machine.specs.place_names.declared.fact.Fact.TheVariants.{Moved, Lent}
+use Rattle.machine.specs.place_names.Names.{Name as PlaceName, overlaps, covers}
 use Rattle.std.proofs.Common.{None}
 use Rattle.std.proofs.lemmas.Bool.{false≢true}
 use Rattle.soundness.proofs.ExactFacts.Steps.{under_covers}

@@ -1,16 +1,16 @@
 -- A leak check doesn't fail at a place that a fact without an element calls moved, perhaps through a view.
 use Rattle.std.proofs.Common.{◌≡◌, refl, sym, ap, ◌∙◌, subst, inl, inr, ℕ, ◌+◌, true, false, List, [], ◌∷◌, ◌++◌, map, get_or, arith}
 use Rattle.soundness.proofs.ExactFacts.Checks.{is_gone, failed_gone}
-use Rattle.spark_base.specs.Lists.{Has}
-use Rattle.spark_base.specs.declared.position.Pos.{Pos}
-use Rattle.place_names.specs.declared.selector.Sel.{Sel}
-use Rattle.place_names.specs.declared.fact.Fact.{Fact}
-use Rattle.place_names.specs.declared.fact.Fact.TheVariants.{Moved}
-use Rattle.place_names.specs.Names.{Name, extend, has_elem}
-use Rattle.type_definitions.specs.Types.{parts}
-use Rattle.flow_paths.specs.declared.point.LeakSpot.{LeakSpot}
-use Rattle.flow_paths.specs.Objects.{Typing}
-use Rattle.flow_paths.specs.Acts.{spot}
+use Rattle.machine.specs.spark_base.Lists.{Has}
+use Rattle.machine.specs.spark_base.declared.position.Pos.{Pos}
+use Rattle.machine.specs.place_names.declared.selector.Sel.{Sel}
+use Rattle.machine.specs.place_names.declared.fact.Fact.{Fact}
+use Rattle.machine.specs.place_names.declared.fact.Fact.TheVariants.{Moved}
+use Rattle.machine.specs.place_names.Names.{Name, extend, has_elem}
+use Rattle.machine.specs.type_definitions.Types.{parts}
+use Rattle.machine.specs.flow_paths.declared.point.LeakSpot.{LeakSpot}
+use Rattle.machine.specs.flow_paths.Objects.{Typing}
+use Rattle.machine.specs.flow_paths.Acts.{spot}
 use Rattle.machine.specs.Words.{offsets}
 use Rattle.machine.specs.Memory.{Slot, Memory, Place, no_slot, slots_at}
 use Rattle.machine.specs.Calls.{checked_at, checks_at}

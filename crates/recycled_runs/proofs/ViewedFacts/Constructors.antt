@@ -1,11 +1,11 @@
 -- Which constructor a value has.
 use Rattle.std.specs.Prelude.{Bool, true, false}
-use Rattle.flow_paths.specs.Instructions as instructions
+use Rattle.machine.specs.flow_paths.Instructions as instructions
 use Rattle.machine.specs.Calls as calls
 use Rattle.machine.specs.Memory as memory
 use Rattle.machine.specs.States as states
-use Rattle.place_names.specs.declared.act.Mode.TheVariants as mode
-use Rattle.place_names.specs.declared.act.Mode.{Mode}
+use Rattle.machine.specs.place_names.declared.act.Mode.TheVariants as mode
+use Rattle.machine.specs.place_names.declared.act.Mode.{Mode}
 use Rattle.soundness.specs.OwnedWays.Ways as ways
 
 abbrev pub is_call_instruction : instructions.Instruction → Bool

@@ -1,10 +1,10 @@
 -- Facts without an element stay exact where an expression takes the values that wait for its calls, of any types.
 use Rattle.std.proofs.Common.{◌≡◌, refl, sym, ap, ◌∙◌, subst, ℕ, suc, true, ◌||◌, List, ◌∷◌, ◌++◌, append-nil, append_assoc, Bool}
-use Rattle.place_names.specs.declared.fact.Fact.{Fact}
-use Rattle.type_definitions.specs.declared.table.Shape.{Shape}
-use Rattle.type_definitions.specs.Types.{shape_of}
-use Rattle.typed_tree.specs.Trees.{TypedTree, Call, Parens, Aggregate, Alike, New, NoMore, More}
-use Rattle.flow_paths.specs.Acts.{acts_in}
+use Rattle.machine.specs.place_names.declared.fact.Fact.{Fact}
+use Rattle.machine.specs.type_definitions.declared.table.Shape.{Shape}
+use Rattle.machine.specs.type_definitions.Types.{shape_of}
+use Rattle.machine.specs.typed_tree.Trees.{TypedTree, Call, Parens, Aggregate, Alike, New, NoMore, More}
+use Rattle.machine.specs.flow_paths.Acts.{acts_in}
 use Rattle.machine.specs.Words as machine
 use Rattle.machine.specs.Typed.{is_record, is_array}
 use Rattle.machine.specs.Memory.{Memory}

@@ -1,20 +1,20 @@
 -- Facts without an element stay exact where a borrower or observer is declared with, or assigned, what a function gave
 -- that goes through a name.
 use Rattle.std.proofs.Common.{◌≡◌, refl, sym, ap, ◌∙◌, subst, ℕ, Bool, true, false, List, [], ◌∷◌, ◌++◌, length, Some, if◌then◌else◌, inl, inr}
-use Rattle.spark_base.specs.Lists.{Has}
-use Rattle.spark_base.specs.declared.position.Pos.{Pos}
-use Rattle.place_names.specs.declared.act.Act.{Act}
-use Rattle.place_names.specs.declared.act.Act.TheVariants as act
-use Rattle.place_names.specs.declared.fact.Fact.{Fact}
-use Rattle.place_names.specs.declared.fact.Fact.TheVariants.{Moved}
-use Rattle.place_names.specs.Names.{Name as PlaceName}
-use Rattle.place_names.specs.Facts.{adds, effect}
-use Rattle.typed_tree.specs.Trees.{TypedTree, Name, NoMore, More, Call as CallIn}
-use Rattle.flow_paths.specs.declared.point.LeakSpot.{LeakSpot}
-use Rattle.flow_paths.specs.Objects.{Typing, object_at, is_borrower, is_borrowing, is_observing, is_observer, is_variable, view_of}
-use Rattle.flow_paths.specs.Names.{name_of, written, source}
-use Rattle.flow_paths.specs.Scopes.{taken}
-use Rattle.flow_paths.specs.Acts.{acts_in, index_acts, source_acts, declared_acts, observe, reborrow, assigned_to, stored_acts, target_pos as acts_target_pos}
+use Rattle.machine.specs.spark_base.Lists.{Has}
+use Rattle.machine.specs.spark_base.declared.position.Pos.{Pos}
+use Rattle.machine.specs.place_names.declared.act.Act.{Act}
+use Rattle.machine.specs.place_names.declared.act.Act.TheVariants as act
+use Rattle.machine.specs.place_names.declared.fact.Fact.{Fact}
+use Rattle.machine.specs.place_names.declared.fact.Fact.TheVariants.{Moved}
+use Rattle.machine.specs.place_names.Names.{Name as PlaceName}
+use Rattle.machine.specs.place_names.Facts.{adds, effect}
+use Rattle.machine.specs.typed_tree.Trees.{TypedTree, Name, NoMore, More, Call as CallIn}
+use Rattle.machine.specs.flow_paths.declared.point.LeakSpot.{LeakSpot}
+use Rattle.machine.specs.flow_paths.Objects.{Typing, object_at, is_borrower, is_borrowing, is_observing, is_observer, is_variable, view_of}
+use Rattle.machine.specs.flow_paths.Names.{name_of, written, source}
+use Rattle.machine.specs.flow_paths.Scopes.{taken}
+use Rattle.machine.specs.flow_paths.Acts.{acts_in, index_acts, source_acts, declared_acts, observe, reborrow, assigned_to, stored_acts, target_pos as acts_target_pos}
 use Rattle.machine.specs.Words as machine
 use Rattle.machine.specs.Memory.{Memory, Place, declared}
 use Rattle.machine.specs.Evaluate.{Now, Done, followed_by, evaluate, checked, value, viewed}
@@ -42,7 +42,7 @@ use Rattle.recycled_runs.proofs.ViewedFacts.Viewing.{moves_nothing}
 use Rattle.recycled_runs.proofs.ViewedFacts.Steps.{IsAway}
 use Rattle.soundness.specs.ViewedSoundness.Taken.{GivesPlainly}
 use Rattle.viewed_steps.specs.Traversals.{GivesView}
-use Rattle.type_definitions.specs.Types.{shape_of}
+use Rattle.machine.specs.type_definitions.Types.{shape_of}
 
 -- such a call
 abbrev pub call_tree : Pos → ℕ → Pos → ℕ → TypedTree → ℕ → TypedTree → TypedTree

@@ -1,19 +1,19 @@
 -- Each step of a sound state whose facts are exact leads to such a state, in a program that is ready.
 use Rattle.soundness.specs.ViewedSoundness.Holds.{is_view}
 use Rattle.std.proofs.Common.{◌<◌, ◌≡◌, refl, sym, ◌∙◌, subst, ◌⊎◌, inl, inr, ℕ, suc, true, false, List, [], ◌∷◌, length, arith, Some, None, ap, if◌then◌else◌, Bool}
-use Rattle.spark_base.specs.Lists.{Has}
-use Rattle.place_names.specs.declared.fact.Fact.{Fact}
-use Rattle.place_names.specs.declared.fact.Fact.TheVariants.{Moved}
-use Rattle.place_names.specs.Names.{Name as PlaceName}
-use Rattle.type_definitions.specs.Types.{Table, is_nil}
-use Rattle.typed_tree.specs.Programs.{TypedProgram}
-use Rattle.flow_paths.specs.declared.report.Effects.{Effects}
-use Rattle.flow_paths.specs.Instructions.{Instruction, EndScope, Finish}
-use Rattle.flow_paths.specs.Objects.{Typing, is_package_object}
-use Rattle.flow_paths.specs.Points.{NamedPoint}
-use Rattle.flow_paths.specs.Laid.{FlowSub, FlowProgram, NamedSub, flow_typing, flow_program, flow_named}
-use Rattle.flow_paths.specs.Paths.{ControlPath, facts_before}
-use Rattle.flow_paths.specs.Effects.{path_points, written_by}
+use Rattle.machine.specs.spark_base.Lists.{Has}
+use Rattle.machine.specs.place_names.declared.fact.Fact.{Fact}
+use Rattle.machine.specs.place_names.declared.fact.Fact.TheVariants.{Moved}
+use Rattle.machine.specs.place_names.Names.{Name as PlaceName}
+use Rattle.machine.specs.type_definitions.Types.{Table, is_nil}
+use Rattle.machine.specs.typed_tree.Programs.{TypedProgram}
+use Rattle.machine.specs.flow_paths.declared.report.Effects.{Effects}
+use Rattle.machine.specs.flow_paths.Instructions.{Instruction, EndScope, Finish}
+use Rattle.machine.specs.flow_paths.Objects.{Typing, is_package_object}
+use Rattle.machine.specs.flow_paths.Points.{NamedPoint}
+use Rattle.machine.specs.flow_paths.Laid.{FlowSub, FlowProgram, NamedSub, flow_typing, flow_program, flow_named}
+use Rattle.machine.specs.flow_paths.Paths.{ControlPath, facts_before}
+use Rattle.machine.specs.flow_paths.Effects.{path_points, written_by}
 use Rattle.machine.specs.Memory.{Memory}
 use Rattle.machine.specs.States.{Waiting, Frame, State, Outcome, Goes, Ends, sub_of, Return}
 use Rattle.machine.specs.Owners.{waiting_in}
@@ -39,12 +39,12 @@ use Rattle.recycled_runs.proofs.ViewedFacts.Calls.{carried_told, lies_low, passe
 use Rattle.viewed_steps.proofs.Handed.{AreApart, apart_of}
 use Rattle.std.proofs.Common.{Option}
 use Rattle.std.proofs.lemmas.Bool.{false≢true, true≢false}
-use Rattle.place_names.specs.declared.rule.Loan.TheVariants.{Borrowed}
+use Rattle.machine.specs.place_names.declared.rule.Loan.TheVariants.{Borrowed}
 use Rattle.viewed_steps.specs.Taken.{AreCarried, Lodge, IsTakenIn}
 use Rattle.recycled_runs.proofs.ViewedFacts.Frames.{IsDefiniteHere}
 use Rattle.recycled_runs.proofs.ViewedFacts.Told.{told_next}
 use Rattle.recycled_runs.proofs.ViewedFacts.ScopeEnds.{told_left}
-use Rattle.place_names.specs.Facts.{place}
+use Rattle.machine.specs.place_names.Facts.{place}
 use Rattle.viewed_steps.proofs.Apart.{kept_there, written_disturbs}
 use Rattle.viewed_steps.proofs.Outside.{IsSpared, gone_clear, IsFree, free_name}
 use Rattle.soundness.proofs.OwnedWays.Unique.{one_way}

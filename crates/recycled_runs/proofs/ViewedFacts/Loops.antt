@@ -2,24 +2,24 @@
 use Rattle.std.proofs.Common.{◌≡◌, refl, sym, ap, ◌∙◌, subst, inl, inr, ℕ, ◌+◌, Bool, true, false, List, [], ◌∷◌, ◌++◌, take, drop, length, append-nil, ℤ, Option, Some, None, if◌then◌else◌}
 use Rattle.recycled_runs.proofs.ViewedFacts.Steps.{IsAway, IsOthers, of_others}
 use Rattle.std.specs.Prelude as int
-use Rattle.spark_base.specs.declared.position.Pos.{Pos}
-use Rattle.place_names.specs.declared.act.Act.{Act}
-use Rattle.place_names.specs.declared.act.Act.TheVariants as act
-use Rattle.place_names.specs.declared.act.Mode.TheVariants as mode
-use Rattle.place_names.specs.declared.fact.Fact.{Fact}
-use Rattle.place_names.specs.Names.{Name as PlaceName}
-use Rattle.place_names.specs.Rules.{breaks_O3}
-use Rattle.place_names.specs.Facts.{effect}
-use Rattle.type_definitions.specs.Types.{shape_of, words, is_scalar, full}
-use Rattle.typed_tree.specs.Trees.{TypedTree, Name, NoMore, More}
-use Rattle.flow_paths.specs.declared.point.LeakSpot.{LeakSpot}
-use Rattle.flow_paths.specs.Objects.{Typing, object_at}
-use Rattle.flow_paths.specs.Names.{name_of, waiting as waits_in}
-use Rattle.flow_paths.specs.Scopes.{taken}
-use Rattle.flow_paths.specs.Acts.{acts_in, source_acts}
-use Rattle.run_values.specs.declared.items.Item.{Item}
-use Rattle.run_values.specs.declared.items.Item.TheVariants as item
-use Rattle.run_values.specs.Items.{next_item}
+use Rattle.machine.specs.spark_base.declared.position.Pos.{Pos}
+use Rattle.machine.specs.place_names.declared.act.Act.{Act}
+use Rattle.machine.specs.place_names.declared.act.Act.TheVariants as act
+use Rattle.machine.specs.place_names.declared.act.Mode.TheVariants as mode
+use Rattle.machine.specs.place_names.declared.fact.Fact.{Fact}
+use Rattle.machine.specs.place_names.Names.{Name as PlaceName}
+use Rattle.machine.specs.place_names.Rules.{breaks_O3}
+use Rattle.machine.specs.place_names.Facts.{effect}
+use Rattle.machine.specs.type_definitions.Types.{shape_of, words, is_scalar, full}
+use Rattle.machine.specs.typed_tree.Trees.{TypedTree, Name, NoMore, More}
+use Rattle.machine.specs.flow_paths.declared.point.LeakSpot.{LeakSpot}
+use Rattle.machine.specs.flow_paths.Objects.{Typing, object_at}
+use Rattle.machine.specs.flow_paths.Names.{name_of, waiting as waits_in}
+use Rattle.machine.specs.flow_paths.Scopes.{taken}
+use Rattle.machine.specs.flow_paths.Acts.{acts_in, source_acts}
+use Rattle.kept_cells.specs.run_values.declared.items.Item.{Item}
+use Rattle.kept_cells.specs.run_values.declared.items.Item.TheVariants as item
+use Rattle.kept_cells.specs.run_values.Items.{next_item}
 use Rattle.machine.specs.Words.{fits_type}
 use Rattle.machine.specs.Words as machine
 use Rattle.machine.specs.Memory.{Memory, Place, Slot, fresh, variable_slots, words_of, declared, undeclared, stored}

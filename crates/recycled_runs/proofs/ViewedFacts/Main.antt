@@ -1,28 +1,28 @@
 -- In each sound state of a program that is ready whose facts are exact, no leak check of the step fails that is excused.
 use Rattle.std.specs.Prelude.{is_some}
 use Rattle.std.proofs.Common.{Some, ◌+◌, not, ◌≡◌, refl, sym, ap, ◌∙◌, subst, ◌⊎◌, inl, inr, ℕ, suc, Bool, true, false, nat_le, List, [], ◌∷◌, ◌++◌, map, length, get_or, Option, None}
-use Rattle.spark_base.specs.Lists.{Has}
-use Rattle.spark_base.proofs.Lists.{Has-append_left, Has-map_from}
-use Rattle.spark_base.specs.declared.position.Pos.{Pos}
-use Rattle.place_names.specs.declared.selector.Sel.{Sel}
-use Rattle.place_names.specs.declared.act.Placed.{Placed}
-use Rattle.place_names.specs.declared.fact.Fact.{Fact}
-use Rattle.place_names.specs.declared.fact.Fact.TheVariants.{Moved}
-use Rattle.place_names.specs.Facts.{adds}
-use Rattle.place_names.specs.Names.{Name as PlaceName, extend, has_elem}
-use Rattle.type_definitions.specs.Types.{Table}
-use Rattle.typed_tree.specs.Trees.{TypedTree}
-use Rattle.typed_tree.specs.Programs.{TypedProgram}
-use Rattle.flow_paths.specs.declared.report.Effects.{Effects}
-use Rattle.flow_paths.specs.Instructions.{Instruction, Declare, Call, EndScope, Finish}
-use Rattle.flow_paths.specs.declared.point.LeakSpot.{LeakSpot}
-use Rattle.flow_paths.specs.Objects.{Typing, Signature, Passing, sub_at, passing, passings, traverses, Traversed}
-use Rattle.flow_paths.specs.Acts.{spot, actual_values, actual_acts, call_spots, leaks_of}
-use Rattle.flow_paths.specs.Points.{NamedPoint, FlowPoint}
-use Rattle.flow_paths.specs.Laid.{FlowSub, FlowProgram, NamedSub, flow_sub, kept_roots, sub_facts, typing_of, flow_typing, flow_program, flow_named}
-use Rattle.flow_paths.specs.Paths.{ControlPath}
-use Rattle.flow_paths.specs.Effects.{path_points}
-use Rattle.flow_paths.specs.LeakPlan.{IsExcused}
+use Rattle.machine.specs.spark_base.Lists.{Has}
+use Rattle.soundness.proofs.Lists.{Has-append_left, Has-map_from}
+use Rattle.machine.specs.spark_base.declared.position.Pos.{Pos}
+use Rattle.machine.specs.place_names.declared.selector.Sel.{Sel}
+use Rattle.machine.specs.place_names.declared.act.Placed.{Placed}
+use Rattle.machine.specs.place_names.declared.fact.Fact.{Fact}
+use Rattle.machine.specs.place_names.declared.fact.Fact.TheVariants.{Moved}
+use Rattle.machine.specs.place_names.Facts.{adds}
+use Rattle.machine.specs.place_names.Names.{Name as PlaceName, extend, has_elem}
+use Rattle.machine.specs.type_definitions.Types.{Table}
+use Rattle.machine.specs.typed_tree.Trees.{TypedTree}
+use Rattle.machine.specs.typed_tree.Programs.{TypedProgram}
+use Rattle.machine.specs.flow_paths.declared.report.Effects.{Effects}
+use Rattle.machine.specs.flow_paths.Instructions.{Instruction, Declare, Call, EndScope, Finish}
+use Rattle.machine.specs.flow_paths.declared.point.LeakSpot.{LeakSpot}
+use Rattle.machine.specs.flow_paths.Objects.{Typing, Signature, Passing, sub_at, passing, passings, traverses, Traversed}
+use Rattle.machine.specs.flow_paths.Acts.{spot, actual_values, actual_acts, call_spots, leaks_of}
+use Rattle.machine.specs.flow_paths.Points.{NamedPoint, FlowPoint}
+use Rattle.machine.specs.flow_paths.Laid.{FlowSub, FlowProgram, NamedSub, flow_sub, kept_roots, sub_facts, typing_of, flow_typing, flow_program, flow_named}
+use Rattle.machine.specs.flow_paths.Paths.{ControlPath}
+use Rattle.machine.specs.flow_paths.Effects.{path_points}
+use Rattle.machine.specs.flow_paths.LeakPlan.{IsExcused}
 use Rattle.machine.specs.Memory.{Memory}
 use Rattle.machine.specs.Evaluate.{Now, Evaluated, Done, Raises, Traps}
 use Rattle.machine.specs.Calls.{Passed, all_passed}
@@ -55,7 +55,7 @@ use Rattle.viewed_steps.proofs.CallActs as acting
 use Rattle.viewed_steps.proofs.Followed as followed
 use Rattle.viewed_steps.proofs.Followed.{IsTraversing}
 use Rattle.viewed_steps.specs.Ready.{IsTraversalCall}
-use Rattle.flow_paths.specs.Views.{traversed_formal}
+use Rattle.machine.specs.flow_paths.Views.{traversed_formal}
 use Rattle.soundness.specs.ExactFacts.Exact.{NoneFails, checks_of}
 use Rattle.soundness.specs.ExactFacts.Exact.{IsOfVariable}
 use Rattle.soundness.proofs.ExactFacts.Checks.{none_made}

@@ -1,17 +1,17 @@
 -- Facts without an element stay exact in the steps of a memory, where names may be rooted in views.
 use Rattle.std.proofs.Common.{◌≡◌, refl, sym, ap, ◌∙◌, inl, inr, ℕ, suc, Bool, true, false, not, List, [], ◌∷◌, ◌++◌, length, get_or, arith, Some}
 use Rattle.std.proofs.lemmas.Bool.{false≢true}
-use Rattle.spark_base.specs.Lists.{Has}
-use Rattle.spark_base.proofs.Lists.{Has-map_from}
-use Rattle.spark_base.specs.declared.position.Pos.{Pos}
-use Rattle.place_names.specs.declared.act.Act.TheVariants.{Move, Write, EndScope}
-use Rattle.place_names.specs.declared.rule.Loan.TheVariants.{Borrowed}
-use Rattle.place_names.specs.declared.fact.Fact.{Fact}
-use Rattle.place_names.specs.declared.fact.Fact.TheVariants.{Moved}
-use Rattle.place_names.specs.Names.{Name, extend, has_elem}
-use Rattle.place_names.specs.Facts.{adds, effect}
-use Rattle.type_definitions.specs.Types.{words, parts}
-use Rattle.flow_paths.specs.Objects.{Typing, object_at}
+use Rattle.machine.specs.spark_base.Lists.{Has}
+use Rattle.soundness.proofs.Lists.{Has-map_from}
+use Rattle.machine.specs.spark_base.declared.position.Pos.{Pos}
+use Rattle.machine.specs.place_names.declared.act.Act.TheVariants.{Move, Write, EndScope}
+use Rattle.machine.specs.place_names.declared.rule.Loan.TheVariants.{Borrowed}
+use Rattle.machine.specs.place_names.declared.fact.Fact.{Fact}
+use Rattle.machine.specs.place_names.declared.fact.Fact.TheVariants.{Moved}
+use Rattle.machine.specs.place_names.Names.{Name, extend, has_elem}
+use Rattle.machine.specs.place_names.Facts.{adds, effect}
+use Rattle.machine.specs.type_definitions.Types.{words, parts}
+use Rattle.machine.specs.flow_paths.Objects.{Typing, object_at}
 use Rattle.machine.specs.Words.{access_offsets}
 use Rattle.machine.specs.Words as machine
 use Rattle.machine.specs.Memory.{Memory, HeapCell, Place, cell, no_slot, words_of, stored, moved_out, declared, undeclared, with_new_cell}
@@ -32,7 +32,7 @@ use Rattle.soundness.proofs.Ends.{declares, drops, new_other}
 use Rattle.soundness.proofs.Moments.{number_part}
 use Rattle.soundness.specs.OwnedLoans.Views.{Around, Views, expand, ExcusedBy, Viewed}
 use Rattle.soundness.proofs.OwnedLoans.Others.{clean_away}
-use Rattle.place_names.specs.declared.rule.Loan.{Loan}
+use Rattle.machine.specs.place_names.declared.rule.Loan.{Loan}
 use Rattle.soundness.proofs.OwnedLoans.Allowed.{move_unlent, move_unmoved}
 use Rattle.soundness.specs.ExactFacts.Exact.{IsOfVariable}
 use Rattle.soundness.proofs.ExactFacts.Steps.{variable_rooted, fact_before, Keeps, IsPlaced}

@@ -3,21 +3,21 @@
 use Rattle.std.proofs.Common.{◌≡◌, refl, sym, ap, ◌∙◌, subst, inl, inr, ℕ, ◌+◌, Bool, true, false, ◌&&◌, List, [], ◌∷◌, ◌++◌, map, length, append_assoc, arith}
 use Rattle.std.proofs.lemmas.List.{length-append, length-map}
 use Rattle.std.proofs.lemmas.Bool.{true≢false}
-use Rattle.spark_base.specs.Lists.{Has}
-use Rattle.spark_base.specs.declared.position.Pos.{Pos}
-use Rattle.place_names.specs.declared.selector.Sel.{Sel}
-use Rattle.place_names.specs.declared.act.Mode.{Mode}
-use Rattle.place_names.specs.declared.act.Mode.TheVariants as mode
-use Rattle.place_names.specs.declared.act.Placed.{Placed}
-use Rattle.place_names.specs.declared.fact.Fact.{Fact}
-use Rattle.place_names.specs.declared.fact.Fact.TheVariants.{Moved}
-use Rattle.place_names.specs.Names.{Name as PlaceName, extend, has_elem}
-use Rattle.type_definitions.specs.Types.{shape_of, parts, parts_of, full, is_scalar, is_owning}
-use Rattle.typed_tree.specs.Trees.{TypedTree, Name, More}
-use Rattle.flow_paths.specs.declared.point.LeakSpot.{LeakSpot}
-use Rattle.flow_paths.specs.Objects.{Typing, object_at, is_named_access, view_of, passing, passing_by}
-use Rattle.flow_paths.specs.Names.{name_of, written}
-use Rattle.flow_paths.specs.Acts.{spot, actual_spots, actual_act, actual_acts, call_spots}
+use Rattle.machine.specs.spark_base.Lists.{Has}
+use Rattle.machine.specs.spark_base.declared.position.Pos.{Pos}
+use Rattle.machine.specs.place_names.declared.selector.Sel.{Sel}
+use Rattle.machine.specs.place_names.declared.act.Mode.{Mode}
+use Rattle.machine.specs.place_names.declared.act.Mode.TheVariants as mode
+use Rattle.machine.specs.place_names.declared.act.Placed.{Placed}
+use Rattle.machine.specs.place_names.declared.fact.Fact.{Fact}
+use Rattle.machine.specs.place_names.declared.fact.Fact.TheVariants.{Moved}
+use Rattle.machine.specs.place_names.Names.{Name as PlaceName, extend, has_elem}
+use Rattle.machine.specs.type_definitions.Types.{shape_of, parts, parts_of, full, is_scalar, is_owning}
+use Rattle.machine.specs.typed_tree.Trees.{TypedTree, Name, More}
+use Rattle.machine.specs.flow_paths.declared.point.LeakSpot.{LeakSpot}
+use Rattle.machine.specs.flow_paths.Objects.{Typing, object_at, is_named_access, view_of, passing, passing_by}
+use Rattle.machine.specs.flow_paths.Names.{name_of, written}
+use Rattle.machine.specs.flow_paths.Acts.{spot, actual_spots, actual_act, actual_acts, call_spots}
 use Rattle.machine.specs.Words.{offsets}
 use Rattle.machine.specs.Memory.{Memory, Place, slots_at}
 use Rattle.machine.specs.Calls.{Passed, Value, From, To, checked_at, checks_at, written_pos, out_checks}

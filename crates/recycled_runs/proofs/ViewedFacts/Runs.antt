@@ -1,14 +1,14 @@
 -- At no step of the run of a program with borrowers and observers that is ready a leak check fails that is excused.
 use Rattle.std.proofs.Common.{◌≡◌, subst, ℕ, List, [], ◌∷◌, map, get_or}
-use Rattle.spark_base.specs.Lists.{Has}
-use Rattle.place_names.specs.declared.fact.Fact.TheVariants.{Moved}
-use Rattle.type_definitions.specs.Types.{Table}
-use Rattle.typed_tree.specs.Programs.{TypedProgram}
-use Rattle.flow_paths.specs.declared.report.Effects.{Effects}
-use Rattle.flow_paths.specs.Paths.{facts_before}
-use Rattle.flow_paths.specs.Effects.{path_points}
-use Rattle.flow_paths.specs.LeakPlan.{IsExcused}
-use Rattle.flow_paths.specs.Laid.{FlowProgram, flow_program}
+use Rattle.machine.specs.spark_base.Lists.{Has}
+use Rattle.machine.specs.place_names.declared.fact.Fact.TheVariants.{Moved}
+use Rattle.machine.specs.type_definitions.Types.{Table}
+use Rattle.machine.specs.typed_tree.Programs.{TypedProgram}
+use Rattle.machine.specs.flow_paths.declared.report.Effects.{Effects}
+use Rattle.machine.specs.flow_paths.Paths.{facts_before}
+use Rattle.machine.specs.flow_paths.Effects.{path_points}
+use Rattle.machine.specs.flow_paths.LeakPlan.{IsExcused}
+use Rattle.machine.specs.flow_paths.Laid.{FlowProgram, flow_program}
 use Rattle.machine.specs.States.{Frame, Leak, State, Outcome, Goes, Ends, sub_of}
 use Rattle.machine.specs.Run.{state_at_start, no_point, step}
 use Rattle.soundness.specs.OwnedWays.Ways.{Way, name_of}

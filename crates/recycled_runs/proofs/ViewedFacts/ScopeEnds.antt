@@ -2,27 +2,27 @@
 use Rattle.soundness.specs.ViewedSoundness.Holds.{is_view, Seeing}
 use Rattle.std.proofs.Common.{◌≡◌, refl, sym, ◌∙◌, subst, ℕ, suc, true, false, List, [], ◌∷◌, ◌++◌, length, Some, take, Bool, ap}
 use Rattle.std.proofs.lemmas.Bool.{false≢true}
-use Rattle.spark_base.specs.Lists.{Has}
-use Rattle.spark_base.specs.declared.position.Pos.{Pos}
-use Rattle.place_names.specs.declared.selector.Sel.{Sel}
-use Rattle.place_names.specs.declared.act.Act.{Act}
-use Rattle.place_names.specs.declared.act.Placed.{Placed}
-use Rattle.place_names.specs.declared.fact.Fact.{Fact}
-use Rattle.place_names.specs.declared.fact.Fact.TheVariants.{Moved}
-use Rattle.place_names.specs.Names.{Name as PlaceName, object}
-use Rattle.type_definitions.specs.Types.{Table, parts}
-use Rattle.typed_tree.specs.Programs.{TypedProgram}
-use Rattle.flow_paths.specs.declared.report.Effects.{Effects}
-use Rattle.flow_paths.specs.declared.point.LeakSpot.{LeakSpot}
-use Rattle.flow_paths.specs.Instructions.{Instruction, Call, EndScope}
-use Rattle.flow_paths.specs.Objects.{Typing, object_at, is_package_object, is_borrower}
-use Rattle.flow_paths.specs.Acts as flow
-use Rattle.flow_paths.specs.Acts.{leaks_of}
-use Rattle.flow_paths.specs.Laid.{FlowProgram, flow_sub, typing_of, flow_typing, flow_program}
-use Rattle.flow_paths.specs.Paths.{PathPoint, facts_before}
-use Rattle.flow_paths.specs.Effects.{path_points}
-use Rattle.flow_paths.specs.LeakPlan.{IsExcused}
-use Rattle.flow_paths.specs.Scopes.{taken}
+use Rattle.machine.specs.spark_base.Lists.{Has}
+use Rattle.machine.specs.spark_base.declared.position.Pos.{Pos}
+use Rattle.machine.specs.place_names.declared.selector.Sel.{Sel}
+use Rattle.machine.specs.place_names.declared.act.Act.{Act}
+use Rattle.machine.specs.place_names.declared.act.Placed.{Placed}
+use Rattle.machine.specs.place_names.declared.fact.Fact.{Fact}
+use Rattle.machine.specs.place_names.declared.fact.Fact.TheVariants.{Moved}
+use Rattle.machine.specs.place_names.Names.{Name as PlaceName, object}
+use Rattle.machine.specs.type_definitions.Types.{Table, parts}
+use Rattle.machine.specs.typed_tree.Programs.{TypedProgram}
+use Rattle.machine.specs.flow_paths.declared.report.Effects.{Effects}
+use Rattle.machine.specs.flow_paths.declared.point.LeakSpot.{LeakSpot}
+use Rattle.machine.specs.flow_paths.Instructions.{Instruction, Call, EndScope}
+use Rattle.machine.specs.flow_paths.Objects.{Typing, object_at, is_package_object, is_borrower}
+use Rattle.machine.specs.flow_paths.Acts as flow
+use Rattle.machine.specs.flow_paths.Acts.{leaks_of}
+use Rattle.machine.specs.flow_paths.Laid.{FlowProgram, flow_sub, typing_of, flow_typing, flow_program}
+use Rattle.machine.specs.flow_paths.Paths.{PathPoint, facts_before}
+use Rattle.machine.specs.flow_paths.Effects.{path_points}
+use Rattle.machine.specs.flow_paths.LeakPlan.{IsExcused}
+use Rattle.machine.specs.flow_paths.Scopes.{taken}
 use Rattle.machine.specs.Memory.{Memory, undeclared}
 use Rattle.machine.specs.States.{Frame, State, Outcome, Goes, Ends}
 use Rattle.machine.specs.Step.{Turn, turn}

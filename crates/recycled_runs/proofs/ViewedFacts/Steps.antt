@@ -1,15 +1,15 @@
 -- Facts without an element stay exact in each of the four steps, under its act, and where a view gets another way.
 use Rattle.std.proofs.Common.{◌≡◌, refl, sym, ap, ◌∙◌, subst, ◌⊎◌, inl, inr, ℕ, Bool, true, false, eq-eqb, List, [], ◌∷◌, Option, Some}
 use Rattle.std.proofs.lemmas.Bool.{false≢true, true≢false}
-use Rattle.spark_base.specs.Lists.{Has}
-use Rattle.place_names.specs.declared.selector.Sel.{Sel}
-use Rattle.place_names.specs.declared.rule.Loan.TheVariants.{Borrowed}
-use Rattle.place_names.specs.declared.act.Act.{Act}
-use Rattle.place_names.specs.declared.act.Act.TheVariants.{Move, Write, Free, EndScope}
-use Rattle.place_names.specs.declared.fact.Fact.{Fact}
-use Rattle.place_names.specs.declared.fact.Fact.TheVariants.{Moved}
-use Rattle.place_names.specs.Names.{Name, has_elem}
-use Rattle.place_names.specs.Facts.{adds, effect}
+use Rattle.machine.specs.spark_base.Lists.{Has}
+use Rattle.machine.specs.place_names.declared.selector.Sel.{Sel}
+use Rattle.machine.specs.place_names.declared.rule.Loan.TheVariants.{Borrowed}
+use Rattle.machine.specs.place_names.declared.act.Act.{Act}
+use Rattle.machine.specs.place_names.declared.act.Act.TheVariants.{Move, Write, Free, EndScope}
+use Rattle.machine.specs.place_names.declared.fact.Fact.{Fact}
+use Rattle.machine.specs.place_names.declared.fact.Fact.TheVariants.{Moved}
+use Rattle.machine.specs.place_names.Names.{Name, has_elem}
+use Rattle.machine.specs.place_names.Facts.{adds, effect}
 use Rattle.soundness.specs.OwnedWays.Ways.{Step, Root, OfVariable, OfHand, Loc, OfRoot, OfCell, Way, Object, Lost, Into, All, Empty, Gone, Held, View, part, along, Reaches, IsRooted, Under, Told, IsRelease, IsDrop, base_of, number_of, sels_of, name_of, Named, IsMoved, Allows}
 use Rattle.soundness.proofs.OwnedWays.Locations.{under_itself, under_along, reaches_along}
 use Rattle.soundness.proofs.OwnedWays.Unique.{one_way}
@@ -18,8 +18,8 @@ use Rattle.soundness.proofs.OwnedWays.Moving.{Given}
 use Rattle.soundness.proofs.OwnedWays.Told.{told_after}
 use Rattle.soundness.specs.OwnedLoans.Views.{Go, Part, Down, on, Views, Around, expand, Viewed, Becomes, Unused, Lifted, InPart}
 use Rattle.soundness.proofs.OwnedLoans.Others.{below_through}
-use Rattle.place_names.specs.declared.rule.Loan.{Loan}
-use Rattle.flow_paths.specs.Objects.{Typing}
+use Rattle.machine.specs.place_names.declared.rule.Loan.{Loan}
+use Rattle.machine.specs.flow_paths.Objects.{Typing}
 use Rattle.soundness.specs.Seen.{IsNear, home as frame_home}
 use Rattle.soundness.proofs.Near.{near_under, named_near}
 use Rattle.soundness.proofs.OwnedLoans.Ways.{flip, under_on, meet_overlaps, base_on, on_named, lifts, part_root, lifted_root, lifted_way}

@@ -1,19 +1,19 @@
 -- Facts without an element stay exact in an assignment to what isn't a view, and its excused leak checks don't fail.
 use Rattle.std.proofs.Common.{◌≡◌, refl, sym, ap, ◌∙◌, subst, inl, ℕ, false, List, [], ◌∷◌, ◌++◌, map, length, append_assoc, Bool}
 use Rattle.soundness.specs.ViewedSoundness.Taken.{GivesPlainly}
-use Rattle.spark_base.specs.Lists.{Has}
-use Rattle.spark_base.specs.declared.position.Pos.{Pos}
-use Rattle.place_names.specs.declared.act.Act.{Act}
-use Rattle.place_names.specs.declared.act.Act.TheVariants as act
-use Rattle.place_names.specs.declared.fact.Fact.{Fact}
-use Rattle.place_names.specs.Names.{Name as PlaceName}
-use Rattle.place_names.specs.Facts.{effect}
-use Rattle.type_definitions.specs.Types.{shape_of, words, parts}
-use Rattle.typed_tree.specs.Trees.{TypedTree, Name}
-use Rattle.flow_paths.specs.declared.point.LeakSpot.{LeakSpot}
-use Rattle.flow_paths.specs.Objects.{object_at}
-use Rattle.flow_paths.specs.Names.{waiting, name_of}
-use Rattle.flow_paths.specs.Acts.{acts_in, stored_acts, spot}
+use Rattle.machine.specs.spark_base.Lists.{Has}
+use Rattle.machine.specs.spark_base.declared.position.Pos.{Pos}
+use Rattle.machine.specs.place_names.declared.act.Act.{Act}
+use Rattle.machine.specs.place_names.declared.act.Act.TheVariants as act
+use Rattle.machine.specs.place_names.declared.fact.Fact.{Fact}
+use Rattle.machine.specs.place_names.Names.{Name as PlaceName}
+use Rattle.machine.specs.place_names.Facts.{effect}
+use Rattle.machine.specs.type_definitions.Types.{shape_of, words, parts}
+use Rattle.machine.specs.typed_tree.Trees.{TypedTree, Name}
+use Rattle.machine.specs.flow_paths.declared.point.LeakSpot.{LeakSpot}
+use Rattle.machine.specs.flow_paths.Objects.{object_at}
+use Rattle.machine.specs.flow_paths.Names.{waiting, name_of}
+use Rattle.machine.specs.flow_paths.Acts.{acts_in, stored_acts, spot}
 use Rattle.machine.specs.Words as machine
 use Rattle.machine.specs.Memory.{Memory, Place, stored}
 use Rattle.machine.specs.Evaluate.{Here, Now, AsValue, Evaluated, Done, Raises, Traps, followed_by, evaluate, steps_of, checked, variable_place, walked, place_of}

@@ -3,27 +3,27 @@
 use Rattle.soundness.specs.ViewedSoundness.Holds.{is_view, is_fixed, AllKeep, IsNamed, Seeing}
 use Rattle.std.proofs.Common.{◌≡◌, refl, sym, ap, ◌∙◌, subst, inl, inr, ℕ, suc, true, false, List, [], ◌∷◌, ◌++◌, map, length, Some, None, take, Bool}
 use Rattle.std.proofs.lemmas.Bool.{false≢true}
-use Rattle.spark_base.specs.Lists.{Has}
-use Rattle.spark_base.specs.declared.position.Pos.{Pos}
-use Rattle.place_names.specs.declared.act.Act.{Act}
-use Rattle.place_names.specs.declared.act.Act.TheVariants as act
-use Rattle.place_names.specs.declared.act.Placed.{Placed}
-use Rattle.place_names.specs.declared.fact.Fact.{Fact}
-use Rattle.place_names.specs.declared.fact.Fact.TheVariants.{Moved}
-use Rattle.place_names.specs.Names.{Name as PlaceName}
-use Rattle.type_definitions.specs.Types.{Table, full}
-use Rattle.typed_tree.specs.Trees.{TypedTree, Name, NoMore, More, Call as CallIn}
-use Rattle.typed_tree.specs.Programs.{TypedProgram}
-use Rattle.flow_paths.specs.declared.report.Effects.{Effects}
-use Rattle.flow_paths.specs.declared.point.LeakSpot.{LeakSpot}
-use Rattle.flow_paths.specs.Instructions.{Instruction, Declare, Assign, Hold, EndScope, Finish}
-use Rattle.flow_paths.specs.Objects.{Typing, object_at, is_anonymous, is_package_object, is_observer, view_of, is_variable, is_borrowing, is_observing, is_borrower}
-use Rattle.flow_paths.specs.Names.{waiting as waits_in, name_of, selectors}
-use Rattle.flow_paths.specs.Laid.{FlowProgram, number_in, flow_sub, typing_of, flow_typing, flow_program}
-use Rattle.flow_paths.specs.Paths.{PathPoint, facts_before}
-use Rattle.flow_paths.specs.Effects.{path_points}
-use Rattle.flow_paths.specs.LeakPlan.{IsExcused}
-use Rattle.flow_paths.specs.Scopes.{taken}
+use Rattle.machine.specs.spark_base.Lists.{Has}
+use Rattle.machine.specs.spark_base.declared.position.Pos.{Pos}
+use Rattle.machine.specs.place_names.declared.act.Act.{Act}
+use Rattle.machine.specs.place_names.declared.act.Act.TheVariants as act
+use Rattle.machine.specs.place_names.declared.act.Placed.{Placed}
+use Rattle.machine.specs.place_names.declared.fact.Fact.{Fact}
+use Rattle.machine.specs.place_names.declared.fact.Fact.TheVariants.{Moved}
+use Rattle.machine.specs.place_names.Names.{Name as PlaceName}
+use Rattle.machine.specs.type_definitions.Types.{Table, full}
+use Rattle.machine.specs.typed_tree.Trees.{TypedTree, Name, NoMore, More, Call as CallIn}
+use Rattle.machine.specs.typed_tree.Programs.{TypedProgram}
+use Rattle.machine.specs.flow_paths.declared.report.Effects.{Effects}
+use Rattle.machine.specs.flow_paths.declared.point.LeakSpot.{LeakSpot}
+use Rattle.machine.specs.flow_paths.Instructions.{Instruction, Declare, Assign, Hold, EndScope, Finish}
+use Rattle.machine.specs.flow_paths.Objects.{Typing, object_at, is_anonymous, is_package_object, is_observer, view_of, is_variable, is_borrowing, is_observing, is_borrower}
+use Rattle.machine.specs.flow_paths.Names.{waiting as waits_in, name_of, selectors}
+use Rattle.machine.specs.flow_paths.Laid.{FlowProgram, number_in, flow_sub, typing_of, flow_typing, flow_program}
+use Rattle.machine.specs.flow_paths.Paths.{PathPoint, facts_before}
+use Rattle.machine.specs.flow_paths.Effects.{path_points}
+use Rattle.machine.specs.flow_paths.LeakPlan.{IsExcused}
+use Rattle.machine.specs.flow_paths.Scopes.{taken}
 use Rattle.machine.specs.Memory.{Memory, stored}
 use Rattle.machine.specs.Words as machine
 use Rattle.machine.specs.States.{Frame, State, Outcome, Goes, Ends}
@@ -57,7 +57,7 @@ use Rattle.recycled_runs.proofs.ViewedFacts.Here as here
 use Rattle.recycled_runs.proofs.ViewedFacts.Stepping as stepping
 use Rattle.viewed_steps.proofs.Views.{AreAccess}
 use Rattle.recycled_runs.proofs.ViewedFacts.Steps.{IsAway}
-use Rattle.flow_paths.specs.Acts.{before_write}
+use Rattle.machine.specs.flow_paths.Acts.{before_write}
 use Rattle.soundness.proofs.Scalars.{acts_append, acts}
 use Rattle.soundness.proofs.ViewedSoundness.Evaluated.{keep_both}
 use Rattle.recycled_runs.proofs.ViewedFacts.Given.{call_tree, given_unmoved, reborrowed_acts}

@@ -10,30 +10,30 @@ use Rattle.soundness.proofs.ViewedSoundness.Fed.{scalar_values}
 use Rattle.soundness.proofs.ViewedSoundness.Evaluated.{Ready}
 use Rattle.machine.specs.States.{Waiting}
 use Rattle.std.proofs.Common.{append_assoc}
-use Rattle.spark_base.specs.Lists.{Has}
-use Rattle.spark_base.specs.declared.position.Pos.{Pos}
-use Rattle.place_names.specs.declared.selector.Sel.{Sel}
-use Rattle.place_names.specs.declared.act.Act.{Act}
-use Rattle.place_names.specs.declared.act.Act.TheVariants as act
-use Rattle.place_names.specs.declared.act.Placed.{Placed}
-use Rattle.place_names.specs.declared.fact.Fact.{Fact}
-use Rattle.place_names.specs.declared.fact.Fact.TheVariants.{Moved}
-use Rattle.place_names.specs.Names.{Name as PlaceName}
-use Rattle.place_names.specs.Facts.{effect}
-use Rattle.type_definitions.specs.Types.{Table, full, parts}
-use Rattle.typed_tree.specs.Trees.{TypedTree, Name, NoMore, More}
-use Rattle.typed_tree.specs.Programs.{TypedProgram}
-use Rattle.flow_paths.specs.declared.report.Effects.{Effects}
-use Rattle.flow_paths.specs.declared.point.LeakSpot.{LeakSpot}
-use Rattle.flow_paths.specs.Instructions.{Instruction, Declare, Assign, Hold, EndScope, Finish}
-use Rattle.flow_paths.specs.Objects.{Typing, object_at, is_anonymous, is_package_object, view_of}
-use Rattle.flow_paths.specs.Names.{name_of}
-use Rattle.flow_paths.specs.Acts as flow
-use Rattle.flow_paths.specs.Acts.{acts_in, leaks_of}
-use Rattle.flow_paths.specs.Laid.{FlowProgram, number_in, flow_sub, typing_of, flow_typing, flow_program}
-use Rattle.flow_paths.specs.Paths.{PathPoint}
-use Rattle.flow_paths.specs.Effects.{path_points}
-use Rattle.flow_paths.specs.LeakPlan.{IsExcused}
+use Rattle.machine.specs.spark_base.Lists.{Has}
+use Rattle.machine.specs.spark_base.declared.position.Pos.{Pos}
+use Rattle.machine.specs.place_names.declared.selector.Sel.{Sel}
+use Rattle.machine.specs.place_names.declared.act.Act.{Act}
+use Rattle.machine.specs.place_names.declared.act.Act.TheVariants as act
+use Rattle.machine.specs.place_names.declared.act.Placed.{Placed}
+use Rattle.machine.specs.place_names.declared.fact.Fact.{Fact}
+use Rattle.machine.specs.place_names.declared.fact.Fact.TheVariants.{Moved}
+use Rattle.machine.specs.place_names.Names.{Name as PlaceName}
+use Rattle.machine.specs.place_names.Facts.{effect}
+use Rattle.machine.specs.type_definitions.Types.{Table, full, parts}
+use Rattle.machine.specs.typed_tree.Trees.{TypedTree, Name, NoMore, More}
+use Rattle.machine.specs.typed_tree.Programs.{TypedProgram}
+use Rattle.machine.specs.flow_paths.declared.report.Effects.{Effects}
+use Rattle.machine.specs.flow_paths.declared.point.LeakSpot.{LeakSpot}
+use Rattle.machine.specs.flow_paths.Instructions.{Instruction, Declare, Assign, Hold, EndScope, Finish}
+use Rattle.machine.specs.flow_paths.Objects.{Typing, object_at, is_anonymous, is_package_object, view_of}
+use Rattle.machine.specs.flow_paths.Names.{name_of}
+use Rattle.machine.specs.flow_paths.Acts as flow
+use Rattle.machine.specs.flow_paths.Acts.{acts_in, leaks_of}
+use Rattle.machine.specs.flow_paths.Laid.{FlowProgram, number_in, flow_sub, typing_of, flow_typing, flow_program}
+use Rattle.machine.specs.flow_paths.Paths.{PathPoint}
+use Rattle.machine.specs.flow_paths.Effects.{path_points}
+use Rattle.machine.specs.flow_paths.LeakPlan.{IsExcused}
 use Rattle.machine.specs.Memory.{declared, stored}
 use Rattle.machine.specs.Words as machine
 use Rattle.machine.specs.Calls.{checks_at}

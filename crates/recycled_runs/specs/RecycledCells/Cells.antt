@@ -1,9 +1,9 @@
 -- What a run leaves in a heap that uses its slots again.
 use Rattle.std.specs.Prelude.{◌≡◌, ℕ, zero, suc, false, List, map, slice_get, Some, if◌then◌else◌}
-use Rattle.run_values.specs.declared.value.Value.{Value}
-use Rattle.run_values.specs.declared.value.Value.TheVariants as value
-use Rattle.slot_heap.specs.Heaps.{Heap, words_at}
-use Rattle.flow_paths.specs.Laid.{FlowProgram, flow_typing}
+use Rattle.kept_cells.specs.run_values.declared.value.Value.{Value}
+use Rattle.kept_cells.specs.run_values.declared.value.Value.TheVariants as value
+use Rattle.numbered_cells.specs.slot_heap.Heaps.{Heap, words_at}
+use Rattle.machine.specs.flow_paths.Laid.{FlowProgram, flow_typing}
 use Rattle.machine.specs.Words.{Word, Int, Enumerated, Null, Cell}
 use Rattle.machine.specs.Memory.{Slot, HeapCell}
 use Rattle.machine.specs.States.{sub_of}

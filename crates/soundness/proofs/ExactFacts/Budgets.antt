@@ -1,8 +1,8 @@
 -- If something holds of the state before the first step, and each step of a state of which it holds leads to such a state
 -- and has no excused leak check that fails, no such check fails in the run.
 use Rattle.std.proofs.Common.{◌≡◌, ◌⊎◌, inl, inr, refl, sym, ap, ◌∙◌, subst, ℕ, zero, suc, Bool, true, false, nat_le, List, [], ◌∷◌, if◌then◌else◌}
-use Rattle.flow_paths.specs.declared.report.Effects.{Effects}
-use Rattle.flow_paths.specs.Laid.{FlowProgram}
+use Rattle.machine.specs.flow_paths.declared.report.Effects.{Effects}
+use Rattle.machine.specs.flow_paths.Laid.{FlowProgram}
 use Rattle.machine.specs.Evaluate.{StorageError}
 use Rattle.machine.specs.States.{State, Raised, Spent, Outcome, Goes, Ends, state_of, sub_of, frame_words, stack_words, frame_at_start}
 use Rattle.machine.specs.Run.{state_at_start, step, then_on, within, main_of, moment}

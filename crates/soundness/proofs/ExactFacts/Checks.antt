@@ -1,8 +1,8 @@
 -- A leak check doesn't fail at a place that a fact without an element calls moved.
 use Rattle.std.proofs.Common.{◌≡◌, refl, Bool, true, false, List, [], ◌∷◌}
 use Rattle.std.proofs.lemmas.Bool.{false≢true}
-use Rattle.spark_base.specs.declared.position.Pos.{Pos}
-use Rattle.flow_paths.specs.declared.point.LeakSpot.{LeakSpot}
+use Rattle.machine.specs.spark_base.declared.position.Pos.{Pos}
+use Rattle.machine.specs.flow_paths.declared.point.LeakSpot.{LeakSpot}
 use Rattle.machine.specs.Words as machine
 use Rattle.machine.specs.Calls.{failed_at}
 use Rattle.soundness.specs.OwnedWays.Ways.{Gone}

@@ -1,11 +1,11 @@
 -- What facts are left after acts.
 use Rattle.std.proofs.Common.{◌≡◌, refl, ap, inl, inr, false, not, List, [], ◌∷◌}
 use Rattle.std.specs.List.{filter}
-use Rattle.spark_base.specs.Lists.{Has}
+use Rattle.machine.specs.spark_base.Lists.{Has}
 use Rattle.spark_base.proofs.Lists.{Has-append_left, Has-append_right, Has-append_cases, Has-filter, Has-filter_passes}
-use Rattle.place_names.specs.declared.act.Act.{Act}
-use Rattle.place_names.specs.declared.fact.Fact.{Fact}
-use Rattle.place_names.specs.Facts.{adds, removes, effect}
+use Rattle.machine.specs.place_names.declared.act.Act.{Act}
+use Rattle.machine.specs.place_names.declared.fact.Fact.{Fact}
+use Rattle.machine.specs.place_names.Facts.{adds, removes, effect}
 use Rattle.soundness.specs.OwnedWays.Ways.{after}
 
 effect_more : (a : Act) (all facts : List Fact) → ((f : Fact) → Has facts f → Has all f) → (f : Fact) → Has (effect a facts) f → Has (effect a all) f

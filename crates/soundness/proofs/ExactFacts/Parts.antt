@@ -1,14 +1,14 @@
 -- An access part without an element is one word that owns.
 use Rattle.std.proofs.Common.{◌≡◌, refl, sym, ap, ◌∙◌, subst, inl, inr, ℕ, suc, ◌+◌, ◌<◌, true, false, List, [], ◌∷◌, ◌++◌, map, length, get_or, arith, append_assoc, append-nil, nat_lt, lt-ltb}
-use Rattle.spark_base.specs.Lists.{Has}
+use Rattle.machine.specs.spark_base.Lists.{Has}
 use Rattle.spark_base.proofs.Lists.{Has-append_cases, Has-map_from}
-use Rattle.place_names.specs.declared.selector.Sel.{Sel}
-use Rattle.place_names.specs.declared.selector.Sel.TheVariants.{Field, Elem, Deref}
-use Rattle.place_names.specs.Names.{has_elem}
-use Rattle.type_definitions.specs.declared.table.Component.{Component as Part}
-use Rattle.type_definitions.specs.declared.table.Shape.{Shape}
-use Rattle.type_definitions.specs.declared.table.Shape.TheVariants as shape
-use Rattle.type_definitions.specs.Types.{Table, shape_of, components_of, fields, parts, parts_of, numbered}
+use Rattle.machine.specs.place_names.declared.selector.Sel.{Sel}
+use Rattle.machine.specs.place_names.declared.selector.Sel.TheVariants.{Field, Elem, Deref}
+use Rattle.machine.specs.place_names.Names.{has_elem}
+use Rattle.machine.specs.type_definitions.declared.table.Component.{Component as Part}
+use Rattle.machine.specs.type_definitions.declared.table.Shape.{Shape}
+use Rattle.machine.specs.type_definitions.declared.table.Shape.TheVariants as shape
+use Rattle.machine.specs.type_definitions.Types.{Table, shape_of, components_of, fields, parts, parts_of, numbered}
 use Rattle.soundness.specs.OwnedWays.Ways.{Step, Component}
 use Rattle.soundness.proofs.OwnedWays.Locations.{both_true}
 use Rattle.machine.specs.Words.{no_component, words_before, offsets}

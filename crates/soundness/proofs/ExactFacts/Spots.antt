@@ -2,30 +2,30 @@
 -- of a point go by the former alone; and what an excused one says of the facts at its point.
 use Rattle.std.proofs.Common.{◌≡◌, refl, sym, ap, ◌∙◌, subst, ◌⊎◌, inl, inr, ℕ, zero, suc, ◌+◌, true, false, List, [], ◌∷◌, ◌++◌, map, flat_map, length, get_or, Option, Some, None, Bool, not, IsTrue, take}
 use Rattle.std.proofs.lemmas.Bool.{false≢true, true≢false}
-use Rattle.spark_base.specs.Lists.{Has}
-use Rattle.spark_base.specs.declared.position.Pos.{Pos}
-use Rattle.place_names.specs.declared.act.Act.{Act}
-use Rattle.place_names.specs.declared.act.Mode.TheVariants as mode
-use Rattle.place_names.specs.declared.act.Placed.{Placed}
-use Rattle.place_names.specs.declared.fact.Fact.{Fact}
-use Rattle.place_names.specs.declared.fact.Fact.TheVariants.{Moved}
-use Rattle.place_names.specs.declared.selector.Sel.TheVariants as sel
-use Rattle.place_names.specs.Names.{object, extend, has_elem}
-use Rattle.place_names.specs.Facts.{effect, facts_behind}
+use Rattle.machine.specs.spark_base.Lists.{Has}
+use Rattle.machine.specs.spark_base.declared.position.Pos.{Pos}
+use Rattle.machine.specs.place_names.declared.act.Act.{Act}
+use Rattle.machine.specs.place_names.declared.act.Mode.TheVariants as mode
+use Rattle.machine.specs.place_names.declared.act.Placed.{Placed}
+use Rattle.machine.specs.place_names.declared.fact.Fact.{Fact}
+use Rattle.machine.specs.place_names.declared.fact.Fact.TheVariants.{Moved}
+use Rattle.machine.specs.place_names.declared.selector.Sel.TheVariants as sel
+use Rattle.machine.specs.place_names.Names.{object, extend, has_elem}
+use Rattle.machine.specs.place_names.Facts.{effect, facts_behind}
 use Rattle.place_names.proofs.Facts.{facts_behind-append}
-use Rattle.type_definitions.specs.Types.{Table, parts}
-use Rattle.typed_tree.specs.declared.object.Object.{Object}
-use Rattle.typed_tree.specs.Trees.{TypedTree, Name, More}
-use Rattle.typed_tree.specs.Programs.{TypedProgram, text_io}
-use Rattle.flow_paths.specs.declared.point.LeakSpot.{LeakSpot}
-use Rattle.flow_paths.specs.Instructions.{Instruction, Assign, Call, Release, Test, EndScope}
-use Rattle.flow_paths.specs.Objects.{Typing, object_at, sub_at, designated, is_formal, Passing, ByValue, Traversed, Place, passings}
-use Rattle.flow_paths.specs.Names.{Written, written, name_of}
-use Rattle.flow_paths.specs.Acts.{spot, acts_in, index_acts, actual_values, actual_act, spots_at, actual_spots, call_spots, leaks_of}
-use Rattle.flow_paths.specs.Laid.{Temporary, temporary_object, NamedSub, typing_of, flow_typing, flow_program, flow_named}
-use Rattle.flow_paths.specs.Paths.{PathPoint, path_point, ControlPath, acts_along, facts_before, facts_within}
-use Rattle.flow_paths.specs.LeakPlan.{IsExcused}
-use Rattle.flow_paths.specs.Scopes.{is_temporary}
+use Rattle.machine.specs.type_definitions.Types.{Table, parts}
+use Rattle.machine.specs.typed_tree.declared.object.Object.{Object}
+use Rattle.machine.specs.typed_tree.Trees.{TypedTree, Name, More}
+use Rattle.machine.specs.typed_tree.Programs.{TypedProgram, text_io}
+use Rattle.machine.specs.flow_paths.declared.point.LeakSpot.{LeakSpot}
+use Rattle.machine.specs.flow_paths.Instructions.{Instruction, Assign, Call, Release, Test, EndScope}
+use Rattle.machine.specs.flow_paths.Objects.{Typing, object_at, sub_at, designated, is_formal, Passing, ByValue, Traversed, Place, passings}
+use Rattle.machine.specs.flow_paths.Names.{Written, written, name_of}
+use Rattle.machine.specs.flow_paths.Acts.{spot, acts_in, index_acts, actual_values, actual_act, spots_at, actual_spots, call_spots, leaks_of}
+use Rattle.machine.specs.flow_paths.Laid.{Temporary, temporary_object, NamedSub, typing_of, flow_typing, flow_program, flow_named}
+use Rattle.machine.specs.flow_paths.Paths.{PathPoint, path_point, ControlPath, acts_along, facts_before, facts_within}
+use Rattle.machine.specs.flow_paths.LeakPlan.{IsExcused}
+use Rattle.machine.specs.flow_paths.Scopes.{is_temporary}
 use Rattle.soundness.specs.OwnedWays.Ways.{after}
 use Rattle.soundness.specs.Sound.{IsNoCall, is_temporary_object}
 use Rattle.soundness.proofs.Scalars.{acts}

@@ -1,12 +1,12 @@
 -- In an accepted program, each act of each control path is allowed by each fact before it.
 use Rattle.std.proofs.Common.{◌≡◌, refl, [], Option, Some, None}
-use Rattle.spark_base.specs.Lists.{Has}
-use Rattle.place_names.specs.Rules.{Forbidden, forbids}
-use Rattle.place_names.specs.Reports.{report_at}
-use Rattle.flow_paths.specs.declared.report.Effects.{Effects}
-use Rattle.flow_paths.specs.Laid.{FlowSub, FlowProgram}
-use Rattle.flow_paths.specs.Effects.{path_points}
-use Rattle.flow_paths.specs.Reports.{AreReports, on_paths}
+use Rattle.machine.specs.spark_base.Lists.{Has}
+use Rattle.machine.specs.place_names.Rules.{Forbidden, forbids}
+use Rattle.machine.specs.place_names.Reports.{report_at}
+use Rattle.machine.specs.flow_paths.declared.report.Effects.{Effects}
+use Rattle.machine.specs.flow_paths.Laid.{FlowSub, FlowProgram}
+use Rattle.machine.specs.flow_paths.Effects.{path_points}
+use Rattle.machine.specs.flow_paths.Reports.{AreReports, on_paths}
 use Rattle.soundness.specs.FactLaws.Allowed.{ArePathsAllowed}
 
 none_found : (o : Option Forbidden) → ((found : Forbidden) → o ≡ Some found → ⊥) → o ≡ None

@@ -2,19 +2,19 @@
 use Rattle.std.proofs.Common.{◌≡◌, refl, sym, ap, ◌∙◌, subst, ◌⊎◌, inl, inr, Bool, true, false, not, ◌==◌, ℕ, List, [], ◌∷◌, ◌++◌, filter, None}
 use Rattle.std.proofs.lemmas.Bool.{true≢false}
 use Rattle.std.specs.Prelude.{is_some}
-use Rattle.spark_base.specs.Lists.{Has}
+use Rattle.machine.specs.spark_base.Lists.{Has}
 use Rattle.spark_base.proofs.Lists.{Has-append_cases, Has-filter, Has-map_from}
-use Rattle.place_names.specs.declared.selector.Sel.{Sel}
-use Rattle.place_names.specs.declared.rule.Loan.{Loan}
-use Rattle.place_names.specs.declared.rule.Loan.TheVariants.{Borrowed, Observed}
-use Rattle.place_names.specs.declared.rule.Rule.{Rule}
-use Rattle.place_names.specs.declared.fact.Fact.{Fact}
-use Rattle.place_names.specs.declared.fact.Fact.TheVariants.{Moved, Lent}
-use Rattle.place_names.specs.declared.act.Act.{Act}
-use Rattle.place_names.specs.declared.act.Act.TheVariants.{Read, Look, Write, Move, Borrow, Observe, Reborrow, EndScope, Return, Actual, Global, Free, Give}
-use Rattle.place_names.specs.Names.{Name, extend, is_equal, agree_along, overlaps}
-use Rattle.place_names.specs.Facts.{adds, removes, effect, facts_behind, facts_after}
-use Rattle.place_names.specs.Rules.{forbids, forbidden_if, moved_or_lent, moved_or_borrowed}
+use Rattle.machine.specs.place_names.declared.selector.Sel.{Sel}
+use Rattle.machine.specs.place_names.declared.rule.Loan.{Loan}
+use Rattle.machine.specs.place_names.declared.rule.Loan.TheVariants.{Borrowed, Observed}
+use Rattle.machine.specs.place_names.declared.rule.Rule.{Rule}
+use Rattle.machine.specs.place_names.declared.fact.Fact.{Fact}
+use Rattle.machine.specs.place_names.declared.fact.Fact.TheVariants.{Moved, Lent}
+use Rattle.machine.specs.place_names.declared.act.Act.{Act}
+use Rattle.machine.specs.place_names.declared.act.Act.TheVariants.{Read, Look, Write, Move, Borrow, Observe, Reborrow, EndScope, Return, Actual, Global, Free, Give}
+use Rattle.machine.specs.place_names.Names.{Name, extend, is_equal, agree_along, overlaps}
+use Rattle.machine.specs.place_names.Facts.{adds, removes, effect, facts_behind, facts_after}
+use Rattle.machine.specs.place_names.Rules.{forbids, forbidden_if, moved_or_lent, moved_or_borrowed}
 use Rattle.place_names.proofs.Names.{both_parts, both_true, overlaps-sym}
 use Rattle.soundness.specs.FactLaws.Allowed.{AreAllowed}
 use Rattle.soundness.specs.FactLaws.Apart.{clashes, AreApart}

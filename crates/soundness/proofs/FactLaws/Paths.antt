@@ -1,17 +1,17 @@
 -- On the control paths of accepted programs, facts are apart.
 use Rattle.std.proofs.Common.{◌≡◌, refl, sym, ap, ◌∙◌, subst, ℕ, List, [], ◌∷◌, ◌++◌, map, None, append_assoc, append-nil}
-use Rattle.spark_base.specs.Lists.{Has}
-use Rattle.place_names.specs.declared.act.Act.{Act}
-use Rattle.place_names.specs.declared.act.Placed.{Placed}
-use Rattle.place_names.specs.declared.fact.Fact.{Fact}
-use Rattle.place_names.specs.Facts.{effect, facts_behind}
-use Rattle.place_names.specs.Rules.{forbids}
+use Rattle.machine.specs.spark_base.Lists.{Has}
+use Rattle.machine.specs.place_names.declared.act.Act.{Act}
+use Rattle.machine.specs.place_names.declared.act.Placed.{Placed}
+use Rattle.machine.specs.place_names.declared.fact.Fact.{Fact}
+use Rattle.machine.specs.place_names.Facts.{effect, facts_behind}
+use Rattle.machine.specs.place_names.Rules.{forbids}
 use Rattle.place_names.proofs.Facts.{facts_behind-append}
-use Rattle.flow_paths.specs.declared.report.Effects.{Effects}
-use Rattle.flow_paths.specs.Laid.{FlowSub, FlowProgram}
-use Rattle.flow_paths.specs.Effects.{path_points}
-use Rattle.flow_paths.specs.Reports.{AreReports}
-use Rattle.flow_paths.specs.Paths.{PathPoint, path_point, ControlPath, begins, goes_on, acts_along, facts_before, facts_within}
+use Rattle.machine.specs.flow_paths.declared.report.Effects.{Effects}
+use Rattle.machine.specs.flow_paths.Laid.{FlowSub, FlowProgram}
+use Rattle.machine.specs.flow_paths.Effects.{path_points}
+use Rattle.machine.specs.flow_paths.Reports.{AreReports}
+use Rattle.machine.specs.flow_paths.Paths.{PathPoint, path_point, ControlPath, begins, goes_on, acts_along, facts_before, facts_within}
 use Rattle.soundness.specs.FactLaws.Allowed.{ArePathsAllowed}
 use Rattle.soundness.specs.FactLaws.Apart.{AreApart}
 use Rattle.soundness.proofs.FactLaws.Accepted.{accepted_allows}

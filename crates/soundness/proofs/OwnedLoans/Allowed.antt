@@ -3,20 +3,20 @@
 use Rattle.std.proofs.Common.{◌≡◌, refl, sym, ap, ◌∙◌, ℕ, Bool, true, false, ◌||◌, ◌==◌, List, [], ◌∷◌, length, nat_lt, lt-ltb}
 use Rattle.std.specs.List.{list_any}
 use Rattle.std.proofs.lemmas.Bool.{false≢true}
-use Rattle.spark_base.specs.Lists.{Has}
-use Rattle.place_names.specs.declared.selector.Sel.{Sel}
-use Rattle.place_names.specs.declared.rule.Rule.TheVariants.{O1, O2, O3, O4, O5, O6, O7, O14}
-use Rattle.place_names.specs.declared.rule.Loan.{Loan}
-use Rattle.place_names.specs.declared.rule.Loan.TheVariants.{Borrowed}
-use Rattle.place_names.specs.Names.{Name, object, agrees, agree_along, agrees_whole, overlaps, leads_to, strict_prefixes}
+use Rattle.machine.specs.spark_base.Lists.{Has}
+use Rattle.machine.specs.place_names.declared.selector.Sel.{Sel}
+use Rattle.machine.specs.place_names.declared.rule.Rule.TheVariants.{O1, O2, O3, O4, O5, O6, O7, O14}
+use Rattle.machine.specs.place_names.declared.rule.Loan.{Loan}
+use Rattle.machine.specs.place_names.declared.rule.Loan.TheVariants.{Borrowed}
+use Rattle.machine.specs.place_names.Names.{Name, object, agrees, agree_along, agrees_whole, overlaps, leads_to, strict_prefixes}
 use Rattle.place_names.proofs.Names.{both_parts, both_true}
 use Rattle.place_names.proofs.Rules.{any_breaks_O2}
-use Rattle.place_names.specs.declared.act.Act.{Act}
-use Rattle.place_names.specs.declared.act.Act.TheVariants.{Read, Look, Move, Write, Free, Borrow, Observe, Reborrow, Give}
-use Rattle.place_names.specs.declared.fact.Fact.{Fact}
-use Rattle.place_names.specs.declared.fact.Fact.TheVariants.{Moved, Lent}
-use Rattle.place_names.specs.Facts.{removes, effect}
-use Rattle.place_names.specs.Rules.{lent, moved_or_borrowed, moved_or_lent, breaks_O2, breaks_O3, breaks_O14}
+use Rattle.machine.specs.place_names.declared.act.Act.{Act}
+use Rattle.machine.specs.place_names.declared.act.Act.TheVariants.{Read, Look, Move, Write, Free, Borrow, Observe, Reborrow, Give}
+use Rattle.machine.specs.place_names.declared.fact.Fact.{Fact}
+use Rattle.machine.specs.place_names.declared.fact.Fact.TheVariants.{Moved, Lent}
+use Rattle.machine.specs.place_names.Facts.{removes, effect}
+use Rattle.machine.specs.place_names.Rules.{lent, moved_or_borrowed, moved_or_lent, breaks_O2, breaks_O3, breaks_O14}
 use Rattle.soundness.specs.OwnedWays.Ways.{Way, name_of, number_of, sels_of, Allows}
 use Rattle.soundness.proofs.OwnedWays.Assigned.{kept_fact, either_left}
 use Rattle.soundness.proofs.OwnedLoans.Clear.{refused}

@@ -1,6 +1,6 @@
 -- A frame that is alone, and one with nothing lent to others.
 use Rattle.std.proofs.Common.{◌≡◌, ℕ, Bool, List, Some}
-use Rattle.place_names.specs.declared.fact.Fact.{Fact}
+use Rattle.machine.specs.place_names.declared.fact.Fact.{Fact}
 use Rattle.soundness.specs.OwnedWays.Ways.{Step, Way, View}
 use Rattle.soundness.specs.OwnedLoans.Views.{Around, known_gone, Views, Viewed, ViewedAlone}
 

@@ -3,21 +3,21 @@
 use Rattle.std.proofs.Common.{◌≡◌, refl, sym, ap, ◌∙◌, subst, ◌⊎◌, inl, inr, ℕ, Bool, true, false, not, ◌==◌, List, [], ◌∷◌, ◌++◌, None}
 use Rattle.std.specs.List.{filter}
 use Rattle.std.proofs.lemmas.Bool.{false≢true}
-use Rattle.spark_base.specs.Lists.{Has}
+use Rattle.machine.specs.spark_base.Lists.{Has}
 use Rattle.spark_base.proofs.Lists.{Has-append_cases, Has-filter, Has-map_from}
-use Rattle.place_names.specs.declared.selector.Sel.{Sel}
-use Rattle.place_names.specs.declared.rule.Rule.{Rule}
-use Rattle.place_names.specs.declared.rule.Rule.TheVariants.{O4, O5, O6}
-use Rattle.place_names.specs.declared.rule.Loan.{Loan}
-use Rattle.place_names.specs.declared.rule.Loan.TheVariants.{Borrowed, Observed}
-use Rattle.place_names.specs.Names.{Name, is_equal, extend, agree_along, overlaps}
+use Rattle.machine.specs.place_names.declared.selector.Sel.{Sel}
+use Rattle.machine.specs.place_names.declared.rule.Rule.{Rule}
+use Rattle.machine.specs.place_names.declared.rule.Rule.TheVariants.{O4, O5, O6}
+use Rattle.machine.specs.place_names.declared.rule.Loan.{Loan}
+use Rattle.machine.specs.place_names.declared.rule.Loan.TheVariants.{Borrowed, Observed}
+use Rattle.machine.specs.place_names.Names.{Name, is_equal, extend, agree_along, overlaps}
 use Rattle.place_names.proofs.Names.{both_parts, both_true, overlaps-sym}
-use Rattle.place_names.specs.declared.act.Act.{Act}
-use Rattle.place_names.specs.declared.act.Act.TheVariants.{Read, Look, Write, Move, Borrow, Observe, Reborrow, EndScope, Return, Actual, Global, Free, Give}
-use Rattle.place_names.specs.declared.fact.Fact.{Fact}
-use Rattle.place_names.specs.declared.fact.Fact.TheVariants.{Moved, Lent}
-use Rattle.place_names.specs.Facts.{adds, removes, effect}
-use Rattle.place_names.specs.Rules.{forbidden_if, moved_or_borrowed, moved_or_lent}
+use Rattle.machine.specs.place_names.declared.act.Act.{Act}
+use Rattle.machine.specs.place_names.declared.act.Act.TheVariants.{Read, Look, Write, Move, Borrow, Observe, Reborrow, EndScope, Return, Actual, Global, Free, Give}
+use Rattle.machine.specs.place_names.declared.fact.Fact.{Fact}
+use Rattle.machine.specs.place_names.declared.fact.Fact.TheVariants.{Moved, Lent}
+use Rattle.machine.specs.place_names.Facts.{adds, removes, effect}
+use Rattle.machine.specs.place_names.Rules.{forbidden_if, moved_or_borrowed, moved_or_lent}
 use Rattle.soundness.specs.OwnedWays.Ways.{Allows}
 use Rattle.soundness.specs.OwnedLoans.Views.{AreClear}
 use Rattle.soundness.proofs.Constructors.{is_moved_fact, is_observed_loan}

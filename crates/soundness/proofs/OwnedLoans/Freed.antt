@@ -1,12 +1,12 @@
 -- Freeing the cell that a name leads to keeps owners, what is known and the ways of views.
 use Rattle.std.proofs.Common.{◌≡◌, refl, sym, ap, ◌∙◌, subst, inl, inr, ℕ, Bool, false, List, [], ◌∷◌, ◌++◌}
 use Rattle.std.proofs.lemmas.Bool.{false≢true}
-use Rattle.place_names.specs.Names.{covers}
-use Rattle.place_names.specs.declared.act.Act.{Act}
-use Rattle.place_names.specs.declared.act.Act.TheVariants.{Free}
-use Rattle.place_names.specs.declared.fact.Fact.{Fact}
-use Rattle.place_names.specs.declared.fact.Fact.TheVariants.{Moved}
-use Rattle.place_names.specs.Facts.{effect}
+use Rattle.machine.specs.place_names.Names.{covers}
+use Rattle.machine.specs.place_names.declared.act.Act.{Act}
+use Rattle.machine.specs.place_names.declared.act.Act.TheVariants.{Free}
+use Rattle.machine.specs.place_names.declared.fact.Fact.{Fact}
+use Rattle.machine.specs.place_names.declared.fact.Fact.TheVariants.{Moved}
+use Rattle.machine.specs.place_names.Facts.{effect}
 use Rattle.soundness.specs.OwnedWays.Ways.{Step, OfVariable, OfHand, OfRoot, Sound, base_of, Loc, OfCell, Inside, Way, Object, Lost, Into, All, Empty, Gone, Held, View, part, along, Below, Reaches, IsRooted, Under, Past, Owned, IsRelease, name_of, number_of, Named, Allows}
 use Rattle.soundness.proofs.OwnedWays.Locations.{past_under, under_along, under_itself, reaches_along}
 use Rattle.soundness.proofs.OwnedWays.Unique.{one_location, one_way}

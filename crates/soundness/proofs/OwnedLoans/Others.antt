@@ -1,12 +1,12 @@
 -- What is lent to others, where the facts allow an act: its name meets no place that others have
 -- borrowed, and what is changed lies on no way of their views.
 use Rattle.std.proofs.Common.{◌≡◌, refl, sym, ap, ◌∙◌, subst, inl, inr, ℕ, Bool, true, List, [], ◌∷◌, ◌++◌, Some}
-use Rattle.spark_base.specs.Lists.{Has}
-use Rattle.place_names.specs.declared.rule.Loan.{Loan}
-use Rattle.place_names.specs.declared.rule.Loan.TheVariants.{Borrowed}
-use Rattle.place_names.specs.declared.fact.Fact.{Fact}
-use Rattle.place_names.specs.declared.fact.Fact.TheVariants.{Lent}
-use Rattle.place_names.specs.Names.{overlaps}
+use Rattle.machine.specs.spark_base.Lists.{Has}
+use Rattle.machine.specs.place_names.declared.rule.Loan.{Loan}
+use Rattle.machine.specs.place_names.declared.rule.Loan.TheVariants.{Borrowed}
+use Rattle.machine.specs.place_names.declared.fact.Fact.{Fact}
+use Rattle.machine.specs.place_names.declared.fact.Fact.TheVariants.{Lent}
+use Rattle.machine.specs.place_names.Names.{overlaps}
 use Rattle.soundness.specs.OwnedWays.Ways.{Step, Loc, OfVariable, OfRoot, Way, Object, Lost, Into, All, View, Under, Past, Named, along, name_of, number_of}
 use Rattle.soundness.proofs.OwnedWays.Locations.{past_under, under_itself, under_along}
 use Rattle.soundness.proofs.OwnedWays.Named.{longer, under_leads}

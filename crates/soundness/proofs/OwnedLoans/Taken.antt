@@ -1,20 +1,20 @@
 -- Borrow, Observe and Reborrow: a view gets the way of the cell that a name designates.
 use Rattle.std.proofs.Common.{◌≡◌, refl, sym, ap, ◌∙◌, subst, ◌⊎◌, inl, inr, ℕ, ◌==◌, eqb-true, eq-eqb, Bool, true, false, List, [], ◌∷◌, ◌<◌, arith, Option, Some, None, if◌then◌else◌, is_some}
-use Rattle.spark_base.specs.Lists.{Has}
+use Rattle.machine.specs.spark_base.Lists.{Has}
 use Rattle.spark_base.proofs.Lists.{Has-append_right}
 use Rattle.std.specs.List.{filter}
 use Rattle.std.proofs.Common.{not}
 use Rattle.std.proofs.lemmas.Bool.{false≢true}
-use Rattle.place_names.specs.declared.rule.Rule.TheVariants.{O7}
-use Rattle.place_names.specs.declared.rule.Loan.TheVariants.{Borrowed, Observed}
-use Rattle.place_names.specs.Names.{Name, object, agree_along, overlaps}
+use Rattle.machine.specs.place_names.declared.rule.Rule.TheVariants.{O7}
+use Rattle.machine.specs.place_names.declared.rule.Loan.TheVariants.{Borrowed, Observed}
+use Rattle.machine.specs.place_names.Names.{Name, object, agree_along, overlaps}
 use Rattle.place_names.proofs.Names.{both_true}
-use Rattle.place_names.specs.declared.act.Act.{Act}
-use Rattle.place_names.specs.declared.act.Act.TheVariants.{Borrow, Observe, Reborrow}
-use Rattle.place_names.specs.declared.fact.Fact.{Fact}
-use Rattle.place_names.specs.declared.fact.Fact.TheVariants.{Moved, Lent}
-use Rattle.place_names.specs.Facts.{removes, effect}
-use Rattle.place_names.specs.Rules.{moved_or_lent}
+use Rattle.machine.specs.place_names.declared.act.Act.{Act}
+use Rattle.machine.specs.place_names.declared.act.Act.TheVariants.{Borrow, Observe, Reborrow}
+use Rattle.machine.specs.place_names.declared.fact.Fact.{Fact}
+use Rattle.machine.specs.place_names.declared.fact.Fact.TheVariants.{Moved, Lent}
+use Rattle.machine.specs.place_names.Facts.{removes, effect}
+use Rattle.machine.specs.place_names.Rules.{moved_or_lent}
 use Rattle.soundness.specs.OwnedWays.Ways.{Step, OfVariable, OfHand, OfRoot, OfCell, base_of, Way, Object, Lost, Into, All, View, Reaches, Under, Past, Named, number_of, name_of, Allows}
 use Rattle.soundness.proofs.OwnedWays.Named.{longer}
 use Rattle.soundness.proofs.OwnedWays.Assigned.{kept_fact}

@@ -1,7 +1,7 @@
 -- How ways go on, and the names of owners that names through views stand for.
 use Rattle.std.proofs.Common.{◌≡◌, refl, sym, ap, ◌∙◌, subst, ◌⊎◌, inl, inr, ℕ, ◌==◌, eqb-true, eq-eqb, Bool, true, false, List, [], ◌∷◌, length, suc, ◌+◌, arith, Option, Some, None, is_some}
 use Rattle.std.proofs.lemmas.Bool.{true≢false, false≢true}
-use Rattle.place_names.specs.Names.{overlaps}
+use Rattle.machine.specs.place_names.Names.{overlaps}
 use Rattle.soundness.specs.OwnedWays.Ways.{Step, Root, OfVariable, OfHand, OfRoot, Way, Object, Lost, Into, All, Under, Named, along, base_of, number_of, name_of}
 use Rattle.soundness.proofs.OwnedWays.Locations.{depth, under_depth, under_itself}
 use Rattle.soundness.proofs.OwnedWays.Named.{longer, under_overlaps, under_front}

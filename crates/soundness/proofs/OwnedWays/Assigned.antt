@@ -2,18 +2,18 @@
 use Rattle.std.proofs.Common.{◌≡◌, ◌<◌, refl, sym, ap, ◌∙◌, subst, inl, inr, ℕ, Bool, true, false, not, ◌||◌, List, [], ◌∷◌, Some, None, if◌then◌else◌}
 use Rattle.std.specs.List.{filter}
 use Rattle.std.proofs.lemmas.Bool.{false≢true}
-use Rattle.place_names.specs.declared.selector.Sel.{Sel}
-use Rattle.spark_base.specs.Lists.{Has}
+use Rattle.machine.specs.place_names.declared.selector.Sel.{Sel}
+use Rattle.machine.specs.spark_base.Lists.{Has}
 use Rattle.spark_base.proofs.Lists.{Has-append_left, Has-append_right, Has-filter_passes, Has-map}
-use Rattle.place_names.specs.Names.{extend, overlaps, covers}
-use Rattle.place_names.specs.declared.act.Act.{Act}
-use Rattle.place_names.specs.declared.act.Act.TheVariants.{Move, Write}
-use Rattle.place_names.specs.declared.fact.Fact.{Fact}
-use Rattle.place_names.specs.declared.fact.Fact.TheVariants.{Moved}
-use Rattle.place_names.specs.Facts.{adds, removes, effect}
-use Rattle.place_names.specs.declared.rule.Rule.TheVariants.{O4}
-use Rattle.place_names.specs.declared.rule.State.TheVariants as state
-use Rattle.place_names.specs.Rules.{Forbidden}
+use Rattle.machine.specs.place_names.Names.{extend, overlaps, covers}
+use Rattle.machine.specs.place_names.declared.act.Act.{Act}
+use Rattle.machine.specs.place_names.declared.act.Act.TheVariants.{Move, Write}
+use Rattle.machine.specs.place_names.declared.fact.Fact.{Fact}
+use Rattle.machine.specs.place_names.declared.fact.Fact.TheVariants.{Moved}
+use Rattle.machine.specs.place_names.Facts.{adds, removes, effect}
+use Rattle.machine.specs.place_names.declared.rule.Rule.TheVariants.{O4}
+use Rattle.machine.specs.place_names.declared.rule.State.TheVariants as state
+use Rattle.machine.specs.place_names.Rules.{Forbidden}
 use Rattle.soundness.specs.OwnedWays.Ways.{Step, OfVariable, OfHand, Loc, OfCell, Way, Object, Lost, Into, All, Gone, View, part, along, Reaches, IsRooted, Under, Owned, IsMove, IsSame, base_of, name_of, Named, IsMoved, Excused, Spares, Allows, Sound}
 use Rattle.soundness.proofs.OwnedWays.Named.{longer, under_overlaps, covered_under}
 use Rattle.soundness.proofs.OwnedWays.Moving.{Given, owned_after, covered_after, known_after}

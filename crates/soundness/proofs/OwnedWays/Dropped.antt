@@ -1,10 +1,10 @@
 -- The end of a scope.
 use Rattle.std.proofs.Common.{◌≡◌, sym, ap, ◌∙◌, subst, inl, inr, ℕ, Bool, ◌==◌, eqb-true, List, [], ◌∷◌, ◌<◌}
 use Rattle.std.proofs.lemmas.Bool.{false≢true}
-use Rattle.place_names.specs.declared.act.Act.TheVariants.{EndScope}
-use Rattle.place_names.specs.declared.fact.Fact.{Fact}
-use Rattle.place_names.specs.declared.fact.Fact.TheVariants.{Moved}
-use Rattle.place_names.specs.Facts.{effect}
+use Rattle.machine.specs.place_names.declared.act.Act.TheVariants.{EndScope}
+use Rattle.machine.specs.place_names.declared.fact.Fact.{Fact}
+use Rattle.machine.specs.place_names.declared.fact.Fact.TheVariants.{Moved}
+use Rattle.machine.specs.place_names.Facts.{effect}
 use Rattle.soundness.specs.OwnedWays.Ways.{Loc, OfRoot, OfCell, Inside, Way, Object, Lost, Into, All, Empty, Gone, Held, View, part, Below, Reaches, IsRooted, IsDrop, Root, OfVariable, OfHand, base_of, number_of, name_of, Named, Sound, Owned, Covered}
 use Rattle.soundness.proofs.OwnedWays.Locations.{below}
 use Rattle.soundness.proofs.OwnedWays.Assigned.{kept_fact, is_false}

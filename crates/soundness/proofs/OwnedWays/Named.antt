@@ -2,9 +2,9 @@
 use Rattle.std.proofs.Common.{◌≡◌, refl, sym, ap, ◌∙◌, ◌⊎◌, inl, inr, ℕ, Bool, true, false, not, ◌==◌, eqb-true, eq-eqb, List, [], ◌∷◌, ◌++◌}
 use Rattle.std.proofs.lemmas.List.{append_assoc, append-nil}
 use Rattle.std.proofs.lemmas.Bool.{false≢true, true≢false}
-use Rattle.place_names.specs.declared.selector.Sel.{Sel}
-use Rattle.place_names.specs.declared.selector.Sel.TheVariants.{Field, Elem, Deref}
-use Rattle.place_names.specs.Names.{is_equal, begins, is_prefix, agree_along, overlaps, has_elem, covers, agrees_whole, leads_to}
+use Rattle.machine.specs.place_names.declared.selector.Sel.{Sel}
+use Rattle.machine.specs.place_names.declared.selector.Sel.TheVariants.{Field, Elem, Deref}
+use Rattle.machine.specs.place_names.Names.{is_equal, begins, is_prefix, agree_along, overlaps, has_elem, covers, agrees_whole, leads_to}
 use Rattle.soundness.specs.OwnedWays.Ways.{Component, Element, Way, Object, Lost, Into, All, IsAt, Under, sel_of, Root, OfVariable, OfHand, base_of, object_of, number_of, sels_of, name_of, Named}
 use Rattle.soundness.proofs.OwnedWays.Locations.{both_parts, both_true}
 

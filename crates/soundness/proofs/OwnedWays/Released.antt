@@ -2,11 +2,11 @@
 use Rattle.std.proofs.Common.{◌≡◌, sym, ap, ◌∙◌, subst, ◌⊎◌, inl, inr, ℕ, List, [], ◌∷◌, suc, ◌<◌, ◌≤◌, arith}
 use Rattle.std.proofs.Math.Nat.{eq-or-lt_of_le}
 use Rattle.std.proofs.lemmas.Bool.{false≢true}
-use Rattle.place_names.specs.Names.{covers}
-use Rattle.place_names.specs.declared.act.Act.TheVariants.{Free}
-use Rattle.place_names.specs.declared.fact.Fact.{Fact}
-use Rattle.place_names.specs.declared.fact.Fact.TheVariants.{Moved}
-use Rattle.place_names.specs.Facts.{effect}
+use Rattle.machine.specs.place_names.Names.{covers}
+use Rattle.machine.specs.place_names.declared.act.Act.TheVariants.{Free}
+use Rattle.machine.specs.place_names.declared.fact.Fact.{Fact}
+use Rattle.machine.specs.place_names.declared.fact.Fact.TheVariants.{Moved}
+use Rattle.machine.specs.place_names.Facts.{effect}
 use Rattle.soundness.specs.OwnedWays.Ways.{Step, Loc, OfCell, Inside, Way, Object, Lost, Into, All, Empty, Gone, Held, View, part, Below, Reaches, IsRooted, Under, Owned, IsRelease, IsFresh, name_of, Named, Sound}
 use Rattle.soundness.proofs.OwnedWays.Locations.{below, same_loc}
 use Rattle.soundness.proofs.OwnedWays.Unique.{one_location}

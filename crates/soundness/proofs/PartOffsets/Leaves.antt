@@ -1,14 +1,14 @@
 -- The access parts of a type are its words that own, and stand at the offsets of its access parts.
 use Rattle.std.proofs.Common.{◌≡◌, refl, sym, ap, ◌∙◌, subst, inl, inr, ℕ, zero, suc, ◌+◌, ◌*◌, ◌<◌, Bool, true, false, ◌&&◌, List, [], ◌∷◌, ◌++◌, map, flat_map, length, get_or, arith, append_assoc, append-nil, nat_lt, ltb-true, lt-ltb, suc-mul, zero-mul}
 use Rattle.std.proofs.lemmas.Bool.{false≢true}
-use Rattle.spark_base.specs.Lists.{Has}
+use Rattle.machine.specs.spark_base.Lists.{Has}
 use Rattle.spark_base.proofs.Lists.{Has-append_left, Has-append_right, Has-append_cases, Has-map, Has-map_from}
-use Rattle.place_names.specs.declared.selector.Sel.{Sel}
-use Rattle.place_names.specs.declared.selector.Sel.TheVariants.{Field, Elem, Deref}
-use Rattle.type_definitions.specs.declared.table.Component.{Component as Part}
-use Rattle.type_definitions.specs.declared.table.Shape.{Shape}
-use Rattle.type_definitions.specs.declared.table.Shape.TheVariants as shape
-use Rattle.type_definitions.specs.Types.{Table, shape_of, components_of, fields, words, parts, parts_of, numbered}
+use Rattle.machine.specs.place_names.declared.selector.Sel.{Sel}
+use Rattle.machine.specs.place_names.declared.selector.Sel.TheVariants.{Field, Elem, Deref}
+use Rattle.machine.specs.type_definitions.declared.table.Component.{Component as Part}
+use Rattle.machine.specs.type_definitions.declared.table.Shape.{Shape}
+use Rattle.machine.specs.type_definitions.declared.table.Shape.TheVariants as shape
+use Rattle.machine.specs.type_definitions.Types.{Table, shape_of, components_of, fields, words, parts, parts_of, numbered}
 use Rattle.soundness.specs.OwnedWays.Ways.{Step, Component, Element}
 use Rattle.machine.specs.Words.{no_component, words_before, component_type, element_of, count_of, element_type, element_count, in_each, offsets, access_offsets}
 use Rattle.soundness.specs.PartOffsets.Parts.{type_in, offset_in, has_part, owns_one, is_leaf, sels_along, IsSettled}

@@ -2,10 +2,10 @@
 use Rattle.std.proofs.Common.{◌≡◌, refl, sym, ap, ◌∙◌, subst, ◌⊎◌, inl, inr, ℕ, suc, ◌+◌, ◌*◌, ◌<◌, ◌≤◌, Bool, true, false, ◌&&◌, List, [], ◌∷◌, ◌++◌, map, sum, length, arith, append_assoc, nat_lt, ltb-true}
 use Rattle.std.proofs.lemmas.Bool.{cases_lt, false≢true}
 use Rattle.spark_base.proofs.Lists.{ends}
-use Rattle.type_definitions.specs.declared.table.Component.{Component as Field}
-use Rattle.type_definitions.specs.declared.table.Shape.{Shape}
-use Rattle.type_definitions.specs.declared.table.Shape.TheVariants as shape
-use Rattle.type_definitions.specs.Types.{Table, shape_of, components_of, fields, words, words_of}
+use Rattle.machine.specs.type_definitions.declared.table.Component.{Component as Field}
+use Rattle.machine.specs.type_definitions.declared.table.Shape.{Shape}
+use Rattle.machine.specs.type_definitions.declared.table.Shape.TheVariants as shape
+use Rattle.machine.specs.type_definitions.Types.{Table, shape_of, components_of, fields, words, words_of}
 use Rattle.soundness.specs.OwnedWays.Ways.{Step, Component, Element}
 use Rattle.machine.specs.Words.{no_component, words_before, component_type, element_of, count_of, element_type, element_count}
 use Rattle.soundness.specs.PartOffsets.Parts.{type_in, offset_in, has_part, owns_one, is_leaf, IsSettled}

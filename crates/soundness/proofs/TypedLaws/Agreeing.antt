@@ -1,18 +1,18 @@
 -- Types that agree, and expressions that have one of them.
 use Rattle.std.proofs.Common.{slice_get, ◌≡◌, refl, sym, ap, ◌∙◌, subst, inl, inr, ℕ, Bool, true, false, not, ◌&&◌, ◌||◌, List, [], ◌∷◌, ◌++◌, ℤ, Some, None, if◌then◌else◌}
 use Rattle.std.proofs.lemmas.Bool.{false≢true, true≢false}
-use Rattle.spark_base.specs.declared.position.Pos.{Pos}
-use Rattle.type_definitions.specs.declared.table.Shape.{Shape}
-use Rattle.type_definitions.specs.declared.table.Shape.TheVariants as shape
-use Rattle.type_definitions.specs.declared.judgement.Fault.{Fault}
-use Rattle.type_definitions.specs.Types.{Table, meant_type, shape_found, shape_of, is_owning, owns_of}
-use Rattle.type_definitions.specs.Faults.{demand}
-use Rattle.type_definitions.specs.Expressions.{unary_type}
-use Rattle.type_definitions.specs.Statics.{as_integer}
-use Rattle.typed_tree.specs.Trees.{TypedTree}
-use Rattle.typed_tree.specs.Trees as typed
-use Rattle.typed_tree.specs.Expressions.{within_integer}
-use Rattle.flow_paths.specs.Objects.{Typing}
+use Rattle.machine.specs.spark_base.declared.position.Pos.{Pos}
+use Rattle.machine.specs.type_definitions.declared.table.Shape.{Shape}
+use Rattle.machine.specs.type_definitions.declared.table.Shape.TheVariants as shape
+use Rattle.machine.specs.type_definitions.declared.judgement.Fault.{Fault}
+use Rattle.machine.specs.type_definitions.Types.{Table, meant_type, shape_found, shape_of, is_owning, owns_of}
+use Rattle.machine.specs.type_definitions.Faults.{demand}
+use Rattle.machine.specs.type_definitions.Expressions.{unary_type}
+use Rattle.machine.specs.type_definitions.Statics.{as_integer}
+use Rattle.machine.specs.typed_tree.Trees.{TypedTree}
+use Rattle.machine.specs.typed_tree.Trees as typed
+use Rattle.machine.specs.typed_tree.Expressions.{within_integer}
+use Rattle.machine.specs.flow_paths.Objects.{Typing}
 use Rattle.run_values.specs.Arithmetic.{is_integer}
 use Rattle.machine.specs.Typed.{same_kind}
 use Rattle.soundness.specs.TypedLaws.Fine.{Agree, counts, lists, Has, operator_type}

@@ -1,34 +1,34 @@
 -- Assignments to places whose type is no anonymous access type: the target is a place, and the
 -- source has its type.
 use Rattle.std.proofs.Common.{◌≡◌, refl, ap, ℕ, Bool, true, false, ◌&&◌, List, [], ◌++◌, if◌then◌else◌}
-use Rattle.spark_base.specs.declared.position.Pos.{Pos}
-use Rattle.resolved_tree.specs.Trees.{Tree, Named}
-use Rattle.type_definitions.specs.declared.judgement.Fault.{Fault}
-use Rattle.type_definitions.specs.declared.judgement.Reading.{Reading}
-use Rattle.type_definitions.specs.declared.judgement.Reading.TheVariants as reading
-use Rattle.type_definitions.specs.declared.judgement.Where.TheVariants as stands
-use Rattle.type_definitions.specs.Types.{full}
-use Rattle.type_definitions.specs.Entries.{entry_of, integer}
-use Rattle.type_definitions.specs.Names.{reading_of, is_end}
-use Rattle.type_definitions.specs.Expressions.{own_of, own_type, around, inside, is_anonymous}
-use Rattle.type_definitions.specs.Statements.{target_faults, assign_faults, is_object_entry}
+use Rattle.machine.specs.spark_base.declared.position.Pos.{Pos}
+use Rattle.machine.specs.resolved_tree.Trees.{Tree, Named}
+use Rattle.machine.specs.type_definitions.declared.judgement.Fault.{Fault}
+use Rattle.machine.specs.type_definitions.declared.judgement.Reading.{Reading}
+use Rattle.machine.specs.type_definitions.declared.judgement.Reading.TheVariants as reading
+use Rattle.machine.specs.type_definitions.declared.judgement.Where.TheVariants as stands
+use Rattle.machine.specs.type_definitions.Types.{full}
+use Rattle.machine.specs.type_definitions.Entries.{entry_of, integer}
+use Rattle.machine.specs.type_definitions.Names.{reading_of, is_end}
+use Rattle.machine.specs.type_definitions.Expressions.{own_of, own_type, around, inside, is_anonymous}
+use Rattle.machine.specs.type_definitions.Statements.{target_faults, assign_faults, is_object_entry}
 use Rattle.std.proofs.Common.{subst, sym, ap, ◌∙◌}
 use Rattle.std.proofs.lemmas.Bool.{false≢true}
-use Rattle.type_definitions.specs.declared.table.Shape.TheVariants as shape
-use Rattle.type_definitions.specs.Types.{shape_of, base, view_of, is_same, is_untyped}
-use Rattle.type_definitions.specs.Names.{seen}
-use Rattle.type_definitions.specs.Expressions.{is_access, designated, reading_faults, given_names, call_arguments}
-use Rattle.type_definitions.specs.Statements.{designates}
+use Rattle.machine.specs.type_definitions.declared.table.Shape.TheVariants as shape
+use Rattle.machine.specs.type_definitions.Types.{shape_of, base, view_of, is_same, is_untyped}
+use Rattle.machine.specs.type_definitions.Names.{seen}
+use Rattle.machine.specs.type_definitions.Expressions.{is_access, designated, reading_faults, given_names, call_arguments}
+use Rattle.machine.specs.type_definitions.Statements.{designates}
 use Rattle.soundness.specs.TypedLaws.Fine.{Agree}
 use Rattle.soundness.proofs.TypedLaws.Agreeing.{of_known, and_left, and_right, is_free}
 use Rattle.soundness.proofs.TypedLaws.Steps.{seen_access}
 use Rattle.soundness.proofs.TypedLaws.Named.{named_has}
 use Rattle.soundness.proofs.TypedLaws.Cases.{is_access_view, one_base}
 use Rattle.soundness.proofs.TypedLaws.Main.{fine_suffixes}
-use Rattle.typed_tree.specs.Trees.{TypedTree, Name}
-use Rattle.typed_tree.specs.declared.object.Object.{Object}
-use Rattle.typed_tree.specs.Expressions.{Site, typed_expression, typed_name}
-use Rattle.flow_paths.specs.Objects.{Typing, Signature, object_at}
+use Rattle.machine.specs.typed_tree.Trees.{TypedTree, Name}
+use Rattle.machine.specs.typed_tree.declared.object.Object.{Object}
+use Rattle.machine.specs.typed_tree.Expressions.{Site, typed_expression, typed_name}
+use Rattle.machine.specs.flow_paths.Objects.{Typing, Signature, object_at}
 use Rattle.soundness.specs.TypedLaws.Fine.{Has, Leads, Laws, IsMeant}
 use Rattle.soundness.proofs.TypedLaws.Agreeing.{nil_left, nil_right}
 use Rattle.soundness.proofs.TypedLaws.Steps.{typing}

@@ -1,41 +1,41 @@
 -- Each form of expression has the type that its place takes, where its parts have.
 use Rattle.std.proofs.Common.{◌≡◌, refl, sym, ap, ◌∙◌, subst, inl, ℕ, Bool, true, false, not, nat_eq, ◌&&◌, ◌||◌, List, [], ◌++◌, pos, negsuc, Option, Some, None, if◌then◌else◌}
 use Rattle.std.proofs.lemmas.Bool.{eqb-true, false≢true, true≢false}
-use Rattle.spark_base.specs.declared.position.Pos.{Pos}
-use Rattle.resolved_tree.specs.declared.operator.UnaryOperator.{UnaryOperator}
-use Rattle.resolved_tree.specs.declared.operator.UnaryOperator.TheVariants as unary
-use Rattle.resolved_tree.specs.declared.operator.Operator.{Operator}
-use Rattle.resolved_tree.specs.Trees.{Tree, Number, Text, Null, Named, Parens, Unary, position}
-use Rattle.type_definitions.specs.declared.table.Entry.{Entry}
-use Rattle.type_definitions.specs.declared.table.Entry.TheVariants as entry
-use Rattle.type_definitions.specs.declared.table.Known.{Known}
-use Rattle.type_definitions.specs.declared.table.Shape.{Shape}
-use Rattle.type_definitions.specs.declared.table.Shape.TheVariants as shape
-use Rattle.type_definitions.specs.declared.judgement.View.{View}
-use Rattle.type_definitions.specs.declared.judgement.View.TheVariants as view
-use Rattle.type_definitions.specs.declared.judgement.Reading.{Reading}
-use Rattle.type_definitions.specs.declared.judgement.Reading.TheVariants as reading
-use Rattle.type_definitions.specs.declared.judgement.Own.{Own}
-use Rattle.type_definitions.specs.declared.judgement.Own.TheVariants as own
-use Rattle.type_definitions.specs.declared.judgement.Where.{Where}
-use Rattle.type_definitions.specs.declared.judgement.Where.TheVariants as stands
-use Rattle.type_definitions.specs.Types.{Table, is_owning, is_scalar, is_same, is_untyped, same_bounds, base, full, shape_of, view_of}
-use Rattle.type_definitions.specs.Entries.{entry_of, integer, boolean, is_type, denotes_type, type_of_mark, type_of_entry}
-use Rattle.type_definitions.specs.Faults.{demand}
-use Rattle.type_definitions.specs.Statics.{is_alone}
-use Rattle.type_definitions.specs.Names.{Context, seen, reading_of}
-use Rattle.type_definitions.specs.Expressions.{Given, own_of, own_type, fits, suits, inside, around, is_parens, allowed, is_of, is_access, own_owning, unary_type, operand_type, is_arithmetic, designated, reading_faults, given_names, call_arguments, is_demanding, is_string}
-use Rattle.typed_tree.specs.Trees.{TypedTree}
-use Rattle.typed_tree.specs.Trees as typed
-use Rattle.typed_tree.specs.declared.object.Object.{Object}
-use Rattle.typed_tree.specs.Expressions.{Site, typed_expression}
-use Rattle.flow_paths.specs.Objects.{Signature}
+use Rattle.machine.specs.spark_base.declared.position.Pos.{Pos}
+use Rattle.machine.specs.resolved_tree.declared.operator.UnaryOperator.{UnaryOperator}
+use Rattle.machine.specs.resolved_tree.declared.operator.UnaryOperator.TheVariants as unary
+use Rattle.machine.specs.resolved_tree.declared.operator.Operator.{Operator}
+use Rattle.machine.specs.resolved_tree.Trees.{Tree, Number, Text, Null, Named, Parens, Unary, position}
+use Rattle.machine.specs.type_definitions.declared.table.Entry.{Entry}
+use Rattle.machine.specs.type_definitions.declared.table.Entry.TheVariants as entry
+use Rattle.machine.specs.type_definitions.declared.table.Known.{Known}
+use Rattle.machine.specs.type_definitions.declared.table.Shape.{Shape}
+use Rattle.machine.specs.type_definitions.declared.table.Shape.TheVariants as shape
+use Rattle.machine.specs.type_definitions.declared.judgement.View.{View}
+use Rattle.machine.specs.type_definitions.declared.judgement.View.TheVariants as view
+use Rattle.machine.specs.type_definitions.declared.judgement.Reading.{Reading}
+use Rattle.machine.specs.type_definitions.declared.judgement.Reading.TheVariants as reading
+use Rattle.machine.specs.type_definitions.declared.judgement.Own.{Own}
+use Rattle.machine.specs.type_definitions.declared.judgement.Own.TheVariants as own
+use Rattle.machine.specs.type_definitions.declared.judgement.Where.{Where}
+use Rattle.machine.specs.type_definitions.declared.judgement.Where.TheVariants as stands
+use Rattle.machine.specs.type_definitions.Types.{Table, is_owning, is_scalar, is_same, is_untyped, same_bounds, base, full, shape_of, view_of}
+use Rattle.machine.specs.type_definitions.Entries.{entry_of, integer, boolean, is_type, denotes_type, type_of_mark, type_of_entry}
+use Rattle.machine.specs.type_definitions.Faults.{demand}
+use Rattle.machine.specs.type_definitions.Statics.{is_alone}
+use Rattle.machine.specs.type_definitions.Names.{Context, seen, reading_of}
+use Rattle.machine.specs.type_definitions.Expressions.{Given, own_of, own_type, fits, suits, inside, around, is_parens, allowed, is_of, is_access, own_owning, unary_type, operand_type, is_arithmetic, designated, reading_faults, given_names, call_arguments, is_demanding, is_string}
+use Rattle.machine.specs.typed_tree.Trees.{TypedTree}
+use Rattle.machine.specs.typed_tree.Trees as typed
+use Rattle.machine.specs.typed_tree.declared.object.Object.{Object}
+use Rattle.machine.specs.typed_tree.Expressions.{Site, typed_expression}
+use Rattle.machine.specs.flow_paths.Objects.{Signature}
 use Rattle.soundness.specs.TypedLaws.Fine.{counts, lists, Has, Laws, Denotes}
 use Rattle.soundness.proofs.TypedLaws.Agreeing.{of_known, and_left, whole_number, nil_left, nil_right, holds, either_left, either_right, not_true, retyped, is_free}
 use Rattle.soundness.proofs.TypedLaws.Steps.{typing, seen_access}
 use Rattle.soundness.proofs.TypedLaws.Named.{Fine, AreFineSuffixes, named_has}
 use Rattle.soundness.proofs.TypedLaws.Readings.{is_off}
-use Rattle.type_definitions.specs.Statements.{type_or_integer}
+use Rattle.machine.specs.type_definitions.Statements.{type_or_integer}
 
 -- ---- what faults say
 

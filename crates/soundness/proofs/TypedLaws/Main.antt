@@ -1,12 +1,12 @@
 -- Expressions that break no sentence have the types of their places, and their names stay within
 -- what they name.
 use Rattle.std.proofs.Common.{◌≡◌, ℕ, false, List, []}
-use Rattle.resolved_tree.specs.Trees.{Tree, Number, Text, Null, Named, Parens, Unary, Binary, Aggregate, Others, New, Applied, Argument, More}
-use Rattle.type_definitions.specs.declared.judgement.Where.{Where}
-use Rattle.type_definitions.specs.Expressions.{around, inside}
-use Rattle.typed_tree.specs.declared.object.Object.{Object}
-use Rattle.typed_tree.specs.Expressions.{Site, typed_expression}
-use Rattle.flow_paths.specs.Objects.{Typing, Signature}
+use Rattle.machine.specs.resolved_tree.Trees.{Tree, Number, Text, Null, Named, Parens, Unary, Binary, Aggregate, Others, New, Applied, Argument, More}
+use Rattle.machine.specs.type_definitions.declared.judgement.Where.{Where}
+use Rattle.machine.specs.type_definitions.Expressions.{around, inside}
+use Rattle.machine.specs.typed_tree.declared.object.Object.{Object}
+use Rattle.machine.specs.typed_tree.Expressions.{Site, typed_expression}
+use Rattle.machine.specs.flow_paths.Objects.{Typing, Signature}
 use Rattle.soundness.specs.TypedLaws.Fine.{Has, Laws, IsMeant, AreSuffixes, IsSuffix, AreArguments}
 use Rattle.soundness.proofs.TypedLaws.Steps.{typing}
 use Rattle.soundness.proofs.TypedLaws.Named.{Fine, AreFine, IsFineSuffix, AreFineSuffixes}

@@ -1,32 +1,32 @@
 -- Names: what they are read as is what they have the type of.
 use Rattle.std.proofs.Common.{◌≡◌, refl, sym, ap, ◌∙◌, subst, ◌⊎◌, inl, inr, ℕ, Bool, true, false, List, [], nat_eq, ℤ, Some, None}
-use Rattle.spark_base.specs.declared.position.Pos.{Pos}
-use Rattle.resolved_tree.specs.Trees.{Tree, Applied, Argument, NoMore, More, position}
-use Rattle.type_definitions.specs.Types.{meant_type}
-use Rattle.type_definitions.specs.declared.judgement.View.{View}
-use Rattle.type_definitions.specs.declared.judgement.Next.{Next}
-use Rattle.type_definitions.specs.declared.judgement.Next.TheVariants.{Goes, Gives, Stops}
-use Rattle.type_definitions.specs.declared.judgement.Reading.{Reading}
-use Rattle.type_definitions.specs.declared.judgement.Reading.TheVariants as reading
-use Rattle.type_definitions.specs.declared.judgement.Own.TheVariants as own
-use Rattle.type_definitions.specs.declared.judgement.Where.TheVariants as stands
-use Rattle.type_definitions.specs.declared.judgement.Role.TheVariants as role
-use Rattle.type_definitions.specs.declared.judgement.Way.TheVariants as way
-use Rattle.type_definitions.specs.Types.{is_owning, is_untyped, base, shape_of}
-use Rattle.type_definitions.specs.Entries.{entry_of, integer, boolean}
-use Rattle.type_definitions.specs.Faults.{demand}
-use Rattle.type_definitions.specs.Names.{seen, step, led_on, along, is_end, indexed, is_index, through, of_entry, reading_of}
-use Rattle.type_definitions.specs.Expressions.{own_of, own_type, fits, suits, inside, around, arguments, behind, within_suffix, next_type, is_parens, profile_of, result_type, way_of, is_string}
-use Rattle.typed_tree.specs.Trees.{TypedTree}
-use Rattle.typed_tree.specs.declared.object.Object.{Object}
-use Rattle.typed_tree.specs.Expressions.{Site, object_number, sub_number, typed_expression, typed_first, typed_steps, typed_step, typed_name, object_type, value_of_type}
-use Rattle.flow_paths.specs.Objects.{Signature, object_at, sub_at}
+use Rattle.machine.specs.spark_base.declared.position.Pos.{Pos}
+use Rattle.machine.specs.resolved_tree.Trees.{Tree, Applied, Argument, NoMore, More, position}
+use Rattle.machine.specs.type_definitions.Types.{meant_type}
+use Rattle.machine.specs.type_definitions.declared.judgement.View.{View}
+use Rattle.machine.specs.type_definitions.declared.judgement.Next.{Next}
+use Rattle.machine.specs.type_definitions.declared.judgement.Next.TheVariants.{Goes, Gives, Stops}
+use Rattle.machine.specs.type_definitions.declared.judgement.Reading.{Reading}
+use Rattle.machine.specs.type_definitions.declared.judgement.Reading.TheVariants as reading
+use Rattle.machine.specs.type_definitions.declared.judgement.Own.TheVariants as own
+use Rattle.machine.specs.type_definitions.declared.judgement.Where.TheVariants as stands
+use Rattle.machine.specs.type_definitions.declared.judgement.Role.TheVariants as role
+use Rattle.machine.specs.type_definitions.declared.judgement.Way.TheVariants as way
+use Rattle.machine.specs.type_definitions.Types.{is_owning, is_untyped, base, shape_of}
+use Rattle.machine.specs.type_definitions.Entries.{entry_of, integer, boolean}
+use Rattle.machine.specs.type_definitions.Faults.{demand}
+use Rattle.machine.specs.type_definitions.Names.{seen, step, led_on, along, is_end, indexed, is_index, through, of_entry, reading_of}
+use Rattle.machine.specs.type_definitions.Expressions.{own_of, own_type, fits, suits, inside, around, arguments, behind, within_suffix, next_type, is_parens, profile_of, result_type, way_of, is_string}
+use Rattle.machine.specs.typed_tree.Trees.{TypedTree}
+use Rattle.machine.specs.typed_tree.declared.object.Object.{Object}
+use Rattle.machine.specs.typed_tree.Expressions.{Site, object_number, sub_number, typed_expression, typed_first, typed_steps, typed_step, typed_name, object_type, value_of_type}
+use Rattle.machine.specs.flow_paths.Objects.{Signature, object_at, sub_at}
 use Rattle.soundness.specs.TypedLaws.Fine.{counts, lists, Has, Leads, Laws, Denotes}
 use Rattle.soundness.proofs.TypedLaws.Agreeing.{of_known, whole_number, nil_left, nil_right, holds, agree_lists, scalar_owns, either_left}
 use Rattle.soundness.proofs.TypedLaws.Readings.{no_place, place_along, call_of, value_of, seen_scalar, is_off, is_place, place_type}
 use Rattle.std.proofs.lemmas.Bool.{eqb-true, false≢true, true≢false}
 use Rattle.soundness.proofs.TypedLaws.Steps.{typing, HasIndex, known_next, step_leads, through_made, goes}
-use Rattle.type_definitions.specs.Statements.{type_or_integer}
+use Rattle.machine.specs.type_definitions.Statements.{type_or_integer}
 
 module _ (s : Site) (objects : List Object) (subs : List Signature) (made : ℕ → Type 0) (laws : Laws s.context.known made) where
   -- What is proved of an expression.

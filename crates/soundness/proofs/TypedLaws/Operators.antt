@@ -1,37 +1,37 @@
 -- Operators, and comparisons with null.
 use Rattle.std.proofs.Common.{◌≡◌, refl, sym, ap, ◌∙◌, subst, inl, inr, ℕ, Bool, true, false, ◌&&◌, ◌||◌, nat_eq, List, [], ◌++◌, if◌then◌else◌}
 use Rattle.std.proofs.lemmas.Bool.{eqb-true, false≢true, true≢false}
-use Rattle.spark_base.specs.declared.position.Pos.{Pos}
-use Rattle.resolved_tree.specs.declared.operator.Operator.{Operator}
-use Rattle.resolved_tree.specs.declared.operator.Operator.TheVariants as operator
-use Rattle.resolved_tree.specs.Trees.{Tree, Named, Binary, position}
-use Rattle.type_definitions.specs.Types.{meant_type}
-use Rattle.type_definitions.specs.declared.judgement.Fault.{Fault}
-use Rattle.typed_tree.specs.declared.node.ShortCircuit.{ShortCircuit}
-use Rattle.typed_tree.specs.declared.node.ShortCircuit.TheVariants as short
-use Rattle.type_definitions.specs.declared.judgement.Reading.{Reading}
-use Rattle.type_definitions.specs.declared.judgement.Reading.TheVariants as reading
-use Rattle.type_definitions.specs.declared.judgement.Own.{Own}
-use Rattle.type_definitions.specs.declared.judgement.Own.TheVariants as own
-use Rattle.type_definitions.specs.declared.judgement.Where.TheVariants as stands
-use Rattle.type_definitions.specs.Types.{is_scalar, is_untyped, base, shape_of, full}
-use Rattle.type_definitions.specs.Entries.{integer, boolean}
-use Rattle.type_definitions.specs.Faults.{demand}
-use Rattle.type_definitions.specs.Names.{seen, reading_of}
-use Rattle.type_definitions.specs.Expressions.{own_of, own_type, inside, around, operand_type, is_arithmetic, is_logical, is_join, operator_gives, compares, scalar_own, one_type, is_access, is_null, is_access_name, is_access_place, is_demanding, is_string}
-use Rattle.typed_tree.specs.Trees.{TypedTree}
-use Rattle.typed_tree.specs.Trees as typed
-use Rattle.typed_tree.specs.declared.object.Object.{Object}
-use Rattle.typed_tree.specs.Expressions.{Site, typed_expression, compared}
-use Rattle.flow_paths.specs.Objects.{Signature}
+use Rattle.machine.specs.spark_base.declared.position.Pos.{Pos}
+use Rattle.machine.specs.resolved_tree.declared.operator.Operator.{Operator}
+use Rattle.machine.specs.resolved_tree.declared.operator.Operator.TheVariants as operator
+use Rattle.machine.specs.resolved_tree.Trees.{Tree, Named, Binary, position}
+use Rattle.machine.specs.type_definitions.Types.{meant_type}
+use Rattle.machine.specs.type_definitions.declared.judgement.Fault.{Fault}
+use Rattle.machine.specs.typed_tree.declared.node.ShortCircuit.{ShortCircuit}
+use Rattle.machine.specs.typed_tree.declared.node.ShortCircuit.TheVariants as short
+use Rattle.machine.specs.type_definitions.declared.judgement.Reading.{Reading}
+use Rattle.machine.specs.type_definitions.declared.judgement.Reading.TheVariants as reading
+use Rattle.machine.specs.type_definitions.declared.judgement.Own.{Own}
+use Rattle.machine.specs.type_definitions.declared.judgement.Own.TheVariants as own
+use Rattle.machine.specs.type_definitions.declared.judgement.Where.TheVariants as stands
+use Rattle.machine.specs.type_definitions.Types.{is_scalar, is_untyped, base, shape_of, full}
+use Rattle.machine.specs.type_definitions.Entries.{integer, boolean}
+use Rattle.machine.specs.type_definitions.Faults.{demand}
+use Rattle.machine.specs.type_definitions.Names.{seen, reading_of}
+use Rattle.machine.specs.type_definitions.Expressions.{own_of, own_type, inside, around, operand_type, is_arithmetic, is_logical, is_join, operator_gives, compares, scalar_own, one_type, is_access, is_null, is_access_name, is_access_place, is_demanding, is_string}
+use Rattle.machine.specs.typed_tree.Trees.{TypedTree}
+use Rattle.machine.specs.typed_tree.Trees as typed
+use Rattle.machine.specs.typed_tree.declared.object.Object.{Object}
+use Rattle.machine.specs.typed_tree.Expressions.{Site, typed_expression, compared}
+use Rattle.machine.specs.flow_paths.Objects.{Signature}
 use Rattle.soundness.specs.TypedLaws.Fine.{is_plain, Has, Pointed, Laws, operator_type}
 use Rattle.soundness.proofs.TypedLaws.Agreeing.{of_known, nil_left, nil_right, holds, either_left, either_right, retyped}
 use Rattle.soundness.proofs.TypedLaws.Readings.{seen_scalar, is_off}
 use Rattle.soundness.proofs.TypedLaws.Steps.{typing, seen_access}
 use Rattle.soundness.proofs.TypedLaws.Cases.{Typed, Good, placed, from_own, operand_made, shape_view, is_access_view}
-use Rattle.typed_tree.specs.Expressions.{typed_name}
+use Rattle.machine.specs.typed_tree.Expressions.{typed_name}
 use Rattle.soundness.specs.TypedLaws.Fine.{is_plain, Takes}
-use Rattle.type_definitions.specs.Statements.{type_or_integer}
+use Rattle.machine.specs.type_definitions.Statements.{type_or_integer}
 
 abbrev is_typed : Own → Bool
 is_typed (own.Of t) = true

@@ -1,28 +1,28 @@
 -- What names are read as.
 use Rattle.std.proofs.Common.{◌≡◌, refl, sym, ap, ◌⊎◌, inl, inr, ℕ, Bool, true, false, ℤ, pos, slice_get, Option, Some, None, if◌then◌else◌}
 use Rattle.std.proofs.lemmas.Bool.{false≢true}
-use Rattle.resolved_tree.specs.declared.operator.Attribute.{Attribute}
-use Rattle.resolved_tree.specs.declared.operator.Attribute.TheVariants as attribute
-use Rattle.resolved_tree.specs.Trees.{Tree, Attr, More}
-use Rattle.type_definitions.specs.declared.table.Entry.{Entry}
-use Rattle.type_definitions.specs.declared.table.Entry.TheVariants as entry
-use Rattle.type_definitions.specs.declared.table.ObjectInfo.{ObjectInfo}
-use Rattle.type_definitions.specs.declared.table.Predefined.TheVariants as predefined
-use Rattle.type_definitions.specs.declared.table.Info.{Info}
-use Rattle.type_definitions.specs.declared.table.Shape.{Shape}
-use Rattle.type_definitions.specs.declared.table.Shape.TheVariants as shape
-use Rattle.type_definitions.specs.declared.judgement.View.{View}
-use Rattle.type_definitions.specs.declared.judgement.View.TheVariants as view
-use Rattle.type_definitions.specs.declared.judgement.Next.{Next}
-use Rattle.type_definitions.specs.declared.judgement.Next.TheVariants.{Goes, Gives, Stops}
-use Rattle.type_definitions.specs.declared.judgement.Own.{Own}
-use Rattle.type_definitions.specs.declared.judgement.Own.TheVariants as own
-use Rattle.type_definitions.specs.declared.judgement.Reading.{Reading}
-use Rattle.type_definitions.specs.declared.judgement.Reading.TheVariants as reading
-use Rattle.type_definitions.specs.Types.{is_scalar, base, shape_of, shape_found, view_of, meant_type}
-use Rattle.type_definitions.specs.Entries.{integer}
-use Rattle.type_definitions.specs.Names.{Context, seen, seen_info, is_within, step, led_on, along, ended, is_end, of_entry, type_attribute, scalar_attribute, array_attribute, ended_at, of_function, reading_if, is_call, is_imaged}
-use Rattle.type_definitions.specs.Expressions.{profile_of}
+use Rattle.machine.specs.resolved_tree.declared.operator.Attribute.{Attribute}
+use Rattle.machine.specs.resolved_tree.declared.operator.Attribute.TheVariants as attribute
+use Rattle.machine.specs.resolved_tree.Trees.{Tree, Attr, More}
+use Rattle.machine.specs.type_definitions.declared.table.Entry.{Entry}
+use Rattle.machine.specs.type_definitions.declared.table.Entry.TheVariants as entry
+use Rattle.machine.specs.type_definitions.declared.table.ObjectInfo.{ObjectInfo}
+use Rattle.machine.specs.type_definitions.declared.table.Predefined.TheVariants as predefined
+use Rattle.machine.specs.type_definitions.declared.table.Info.{Info}
+use Rattle.machine.specs.type_definitions.declared.table.Shape.{Shape}
+use Rattle.machine.specs.type_definitions.declared.table.Shape.TheVariants as shape
+use Rattle.machine.specs.type_definitions.declared.judgement.View.{View}
+use Rattle.machine.specs.type_definitions.declared.judgement.View.TheVariants as view
+use Rattle.machine.specs.type_definitions.declared.judgement.Next.{Next}
+use Rattle.machine.specs.type_definitions.declared.judgement.Next.TheVariants.{Goes, Gives, Stops}
+use Rattle.machine.specs.type_definitions.declared.judgement.Own.{Own}
+use Rattle.machine.specs.type_definitions.declared.judgement.Own.TheVariants as own
+use Rattle.machine.specs.type_definitions.declared.judgement.Reading.{Reading}
+use Rattle.machine.specs.type_definitions.declared.judgement.Reading.TheVariants as reading
+use Rattle.machine.specs.type_definitions.Types.{is_scalar, base, shape_of, shape_found, view_of, meant_type}
+use Rattle.machine.specs.type_definitions.Entries.{integer}
+use Rattle.machine.specs.type_definitions.Names.{Context, seen, seen_info, is_within, step, led_on, along, ended, is_end, of_entry, type_attribute, scalar_attribute, array_attribute, ended_at, of_function, reading_if, is_call, is_imaged}
+use Rattle.machine.specs.type_definitions.Expressions.{profile_of}
 use Rattle.soundness.specs.TypedLaws.Fine.{counts, lists}
 
 -- ---- readings and types, told apart

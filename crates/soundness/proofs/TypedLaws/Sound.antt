@@ -1,17 +1,17 @@
 -- An expression that has a type gives what soundness asks for.
 use Rattle.std.proofs.Common.{◌≡◌, refl, sym, ap, ◌∙◌, subst, ◌⊎◌, inl, inr, ℕ, suc, Bool, true, false, ◌||◌, if◌then◌else◌}
 use Rattle.std.proofs.lemmas.Bool.{false≢true}
-use Rattle.type_definitions.specs.declared.table.Shape.{Shape}
-use Rattle.type_definitions.specs.declared.table.Shape.TheVariants as shape
-use Rattle.type_definitions.specs.Types.{Table, shape_of, full, view_of, is_scalar, is_owning, words, words_of}
-use Rattle.type_definitions.specs.Entries.{integer, boolean}
-use Rattle.type_definitions.specs.Expressions.{unary_type, is_arithmetic}
-use Rattle.resolved_tree.specs.declared.operator.Operator.{Operator}
-use Rattle.resolved_tree.specs.declared.operator.UnaryOperator.{UnaryOperator}
-use Rattle.resolved_tree.specs.declared.operator.UnaryOperator.TheVariants as unary
-use Rattle.typed_tree.specs.Trees.{TypedTree, Number, Literal, Text, Name, Component as IntoComponent, Designated, Element, Call, EndOfFile, Parens, Image, Unary, Binary, Short, IsNull, Aggregate, Alike, New, NoMore, More}
-use Rattle.typed_tree.specs.Trees as typed
-use Rattle.flow_paths.specs.Objects.{Typing, object_at}
+use Rattle.machine.specs.type_definitions.declared.table.Shape.{Shape}
+use Rattle.machine.specs.type_definitions.declared.table.Shape.TheVariants as shape
+use Rattle.machine.specs.type_definitions.Types.{Table, shape_of, full, view_of, is_scalar, is_owning, words, words_of}
+use Rattle.machine.specs.type_definitions.Entries.{integer, boolean}
+use Rattle.machine.specs.type_definitions.Expressions.{unary_type, is_arithmetic}
+use Rattle.machine.specs.resolved_tree.declared.operator.Operator.{Operator}
+use Rattle.machine.specs.resolved_tree.declared.operator.UnaryOperator.{UnaryOperator}
+use Rattle.machine.specs.resolved_tree.declared.operator.UnaryOperator.TheVariants as unary
+use Rattle.machine.specs.typed_tree.Trees.{TypedTree, Number, Literal, Text, Name, Component as IntoComponent, Designated, Element, Call, EndOfFile, Parens, Image, Unary, Binary, Short, IsNull, Aggregate, Alike, New, NoMore, More}
+use Rattle.machine.specs.typed_tree.Trees as typed
+use Rattle.machine.specs.flow_paths.Objects.{Typing, object_at}
 use Rattle.machine.specs.Typed.{same_kind, is_record, is_array}
 use Rattle.machine.specs.Words.{element_of, element_type}
 use Rattle.machine.specs.Evaluate.{part_type}

@@ -2,28 +2,28 @@
 -- to.
 use Rattle.std.proofs.Common.{◌≡◌, refl, sym, subst, ℕ, suc, ◌+◌, ◌<◌, Bool, true, false, List, [], ◌∷◌, length, get_or, arith, Option, Some, None, ℤ, slice_get, if◌then◌else◌, ap}
 use Rattle.std.proofs.lemmas.Bool.{true≢false, false≢true}
-use Rattle.resolved_tree.specs.declared.operator.Attribute.{Attribute}
-use Rattle.resolved_tree.specs.declared.operator.Attribute.TheVariants as attribute
-use Rattle.resolved_tree.specs.Trees.{Tree, Number, Text, Null, Named, Parens, Unary, Binary, Aggregate, Others, New, Selected, All, Applied, Attr, Argument, NoMore, More}
-use Rattle.type_definitions.specs.declared.table.Component.{Component}
-use Rattle.type_definitions.specs.declared.table.Info.{Info}
-use Rattle.type_definitions.specs.declared.table.Shape.{Shape}
-use Rattle.type_definitions.specs.declared.table.Shape.TheVariants as shape
-use Rattle.type_definitions.specs.declared.judgement.View.{View}
-use Rattle.type_definitions.specs.declared.judgement.View.TheVariants as view
-use Rattle.type_definitions.specs.declared.judgement.Next.{Next}
-use Rattle.type_definitions.specs.declared.judgement.Next.TheVariants.{Goes}
-use Rattle.type_definitions.specs.Types.{shape_found, shape_of, fields, meant_type, view_of, is_untyped, untyped}
-use Rattle.type_definitions.specs.Entries.{integer, same_word}
-use Rattle.type_definitions.specs.Names.{Context, seen, seen_info, is_within, step, component, selected_component, indexed, is_index, dereferenced, array_attribute, through}
-use Rattle.typed_tree.specs.Trees.{TypedTree}
-use Rattle.typed_tree.specs.Trees as typed
-use Rattle.typed_tree.specs.declared.object.Object.{Object}
-use Rattle.typed_tree.specs.Expressions.{Site, designating, component_number, element, typed_step, typed_first}
-use Rattle.flow_paths.specs.Objects.{Typing, Signature}
+use Rattle.machine.specs.resolved_tree.declared.operator.Attribute.{Attribute}
+use Rattle.machine.specs.resolved_tree.declared.operator.Attribute.TheVariants as attribute
+use Rattle.machine.specs.resolved_tree.Trees.{Tree, Number, Text, Null, Named, Parens, Unary, Binary, Aggregate, Others, New, Selected, All, Applied, Attr, Argument, NoMore, More}
+use Rattle.machine.specs.type_definitions.declared.table.Component.{Component}
+use Rattle.machine.specs.type_definitions.declared.table.Info.{Info}
+use Rattle.machine.specs.type_definitions.declared.table.Shape.{Shape}
+use Rattle.machine.specs.type_definitions.declared.table.Shape.TheVariants as shape
+use Rattle.machine.specs.type_definitions.declared.judgement.View.{View}
+use Rattle.machine.specs.type_definitions.declared.judgement.View.TheVariants as view
+use Rattle.machine.specs.type_definitions.declared.judgement.Next.{Next}
+use Rattle.machine.specs.type_definitions.declared.judgement.Next.TheVariants.{Goes}
+use Rattle.machine.specs.type_definitions.Types.{shape_found, shape_of, fields, meant_type, view_of, is_untyped, untyped}
+use Rattle.machine.specs.type_definitions.Entries.{integer, same_word}
+use Rattle.machine.specs.type_definitions.Names.{Context, seen, seen_info, is_within, step, component, selected_component, indexed, is_index, dereferenced, array_attribute, through}
+use Rattle.machine.specs.typed_tree.Trees.{TypedTree}
+use Rattle.machine.specs.typed_tree.Trees as typed
+use Rattle.machine.specs.typed_tree.declared.object.Object.{Object}
+use Rattle.machine.specs.typed_tree.Expressions.{Site, designating, component_number, element, typed_step, typed_first}
+use Rattle.machine.specs.flow_paths.Objects.{Typing, Signature}
 use Rattle.machine.specs.Words.{no_component}
 use Rattle.soundness.specs.TypedLaws.Fine.{Has, Leads, Laws}
-use Rattle.type_definitions.specs.Expressions.{is_access, next_type}
+use Rattle.machine.specs.type_definitions.Expressions.{is_access, next_type}
 
 -- ---- definitions that are seen
 

@@ -1,37 +1,37 @@
 -- Aggregates and allocators.
 use Rattle.std.proofs.Common.{◌≡◌, refl, sym, ap, ◌∙◌, subst, ◌⊎◌, inl, inr, ℕ, suc, ◌+◌, ◌<◌, Bool, true, false, not, ◌&&◌, ◌||◌, List, [], ◌∷◌, ◌++◌, map, length, get_or, nat_eq, ℤ, Some, None, if◌then◌else◌, arith}
 use Rattle.std.proofs.lemmas.Bool.{eqb-true, false≢true, true≢false}
-use Rattle.spark_base.specs.declared.position.Pos.{Pos}
-use Rattle.resolved_tree.specs.declared.node.Mark.{Mark}
-use Rattle.resolved_tree.specs.Trees.{Tree, Number, Text, Null, Named, Parens, Unary, Binary, Aggregate, Others, New, Argument, NoMore, position}
-use Rattle.type_definitions.specs.declared.table.Component.{Component}
-use Rattle.type_definitions.specs.declared.table.Shape.{Shape}
-use Rattle.type_definitions.specs.declared.table.Shape.TheVariants as shape
-use Rattle.type_definitions.specs.declared.judgement.View.{View}
-use Rattle.type_definitions.specs.declared.judgement.View.TheVariants as view
-use Rattle.type_definitions.specs.declared.judgement.Own.TheVariants as own
-use Rattle.type_definitions.specs.declared.judgement.Where.TheVariants as stands
-use Rattle.type_definitions.specs.declared.judgement.Role.TheVariants as role
-use Rattle.type_definitions.specs.Types.{is_owning, is_untyped, is_bounded, base, shape_of, fields, view_of, full, is_same, span}
-use Rattle.type_definitions.specs.Entries.{integer, boolean, denotes_type, marked, is_complete, same_word}
-use Rattle.type_definitions.specs.Faults.{demand}
-use Rattle.type_definitions.specs.Names.{seen, reading_of}
-use Rattle.type_definitions.specs.Expressions.{own_type, fits, suits, aggregates, parts_role, repeats, repeated_type, inside, around, arguments, allowed, is_of, is_access, unary_type, is_arithmetic, is_join, designated, given_names, element_type, fits_others, fits_aggregate, is_composite, mark_faults, all_by_position, is_demanding}
-use Rattle.typed_tree.specs.Trees.{TypedTree, typed_list}
-use Rattle.typed_tree.specs.Trees as typed
-use Rattle.typed_tree.specs.declared.object.Object.{Object}
-use Rattle.typed_tree.specs.Expressions.{Site, typed_expression, typed_values}
-use Rattle.flow_paths.specs.Objects.{Signature}
+use Rattle.machine.specs.spark_base.declared.position.Pos.{Pos}
+use Rattle.machine.specs.resolved_tree.declared.node.Mark.{Mark}
+use Rattle.machine.specs.resolved_tree.Trees.{Tree, Number, Text, Null, Named, Parens, Unary, Binary, Aggregate, Others, New, Argument, NoMore, position}
+use Rattle.machine.specs.type_definitions.declared.table.Component.{Component}
+use Rattle.machine.specs.type_definitions.declared.table.Shape.{Shape}
+use Rattle.machine.specs.type_definitions.declared.table.Shape.TheVariants as shape
+use Rattle.machine.specs.type_definitions.declared.judgement.View.{View}
+use Rattle.machine.specs.type_definitions.declared.judgement.View.TheVariants as view
+use Rattle.machine.specs.type_definitions.declared.judgement.Own.TheVariants as own
+use Rattle.machine.specs.type_definitions.declared.judgement.Where.TheVariants as stands
+use Rattle.machine.specs.type_definitions.declared.judgement.Role.TheVariants as role
+use Rattle.machine.specs.type_definitions.Types.{is_owning, is_untyped, is_bounded, base, shape_of, fields, view_of, full, is_same, span}
+use Rattle.machine.specs.type_definitions.Entries.{integer, boolean, denotes_type, marked, is_complete, same_word}
+use Rattle.machine.specs.type_definitions.Faults.{demand}
+use Rattle.machine.specs.type_definitions.Names.{seen, reading_of}
+use Rattle.machine.specs.type_definitions.Expressions.{own_type, fits, suits, aggregates, parts_role, repeats, repeated_type, inside, around, arguments, allowed, is_of, is_access, unary_type, is_arithmetic, is_join, designated, given_names, element_type, fits_others, fits_aggregate, is_composite, mark_faults, all_by_position, is_demanding}
+use Rattle.machine.specs.typed_tree.Trees.{TypedTree, typed_list}
+use Rattle.machine.specs.typed_tree.Trees as typed
+use Rattle.machine.specs.typed_tree.declared.object.Object.{Object}
+use Rattle.machine.specs.typed_tree.Expressions.{Site, typed_expression, typed_values}
+use Rattle.machine.specs.flow_paths.Objects.{Signature}
 use Rattle.machine.specs.Typed.{tree_count, field_count, is_record, is_array}
 use Rattle.soundness.specs.TypedLaws.Fine.{counts, lists, Has, HasParts, HasFirst, Laws, IsOptional}
 use Rattle.soundness.proofs.TypedLaws.Agreeing.{of_known, nil_left, nil_right, holds, and_left, and_right, either_left, either_right, agree_owns, scalar_owns}
 use Rattle.soundness.proofs.TypedLaws.Steps.{typing, seen_access, seen_elements}
 use Rattle.soundness.proofs.TypedLaws.Named.{AreFine}
 use Rattle.soundness.proofs.TypedLaws.Cases.{Typed, Good, placed, one_base, unary_made, is_access_view, allowed_when, mark_denotes, marked_is}
-use Rattle.type_definitions.specs.Expressions.{part, is_object, count_of, each_once, by_name, no_component, part_type as part_at}
+use Rattle.machine.specs.type_definitions.Expressions.{part, is_object, count_of, each_once, by_name, no_component, part_type as part_at}
 use Rattle.machine.specs.Words.{component_type}
-use Rattle.type_definitions.specs.Types.{components_of}
-use Rattle.typed_tree.specs.Expressions.{named_value}
+use Rattle.machine.specs.type_definitions.Types.{components_of}
+use Rattle.machine.specs.typed_tree.Expressions.{named_value}
 use Rattle.soundness.proofs.TypedLaws.Steps.{seen_full}
 use Rattle.machine.specs.Evaluate.{part_type}
 use Rattle.soundness.specs.TypedLaws.Fine.{IsMeant}

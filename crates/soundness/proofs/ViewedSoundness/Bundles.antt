@@ -3,16 +3,16 @@
 use Rattle.std.proofs.Common.{◌≡◌, refl, sym, ap, ◌∙◌, subst, ◌⊎◌, inl, inr, ℕ, suc, zero, ◌+◌, ◌*◌, ◌<◌, Bool, true, false, ◌&&◌, List, [], ◌∷◌, ◌++◌, map, length, get_or, append-nil, arith, ltb-true}
 use Rattle.std.proofs.lemmas.List.{length-map}
 use Rattle.std.proofs.lemmas.Bool.{false≢true}
-use Rattle.spark_base.specs.declared.position.Pos.{Pos}
-use Rattle.place_names.specs.declared.fact.Fact.{Fact}
-use Rattle.place_names.specs.Names.{Name as PlaceName, overlaps}
+use Rattle.machine.specs.spark_base.declared.position.Pos.{Pos}
+use Rattle.machine.specs.place_names.declared.fact.Fact.{Fact}
+use Rattle.machine.specs.place_names.Names.{Name as PlaceName, overlaps}
 use Rattle.place_names.proofs.Names.{overlaps-sym}
-use Rattle.type_definitions.specs.declared.table.Shape.TheVariants as shape
-use Rattle.type_definitions.specs.Types.{Table, shape_of, fields, words, words_of as shape_words}
-use Rattle.typed_tree.specs.Trees.{TypedTree, Name}
-use Rattle.flow_paths.specs.Objects.{Typing, object_at, is_anonymous, view_of}
-use Rattle.flow_paths.specs.Names.{waiting, name_of}
-use Rattle.flow_paths.specs.Acts.{acts_in}
+use Rattle.machine.specs.type_definitions.declared.table.Shape.TheVariants as shape
+use Rattle.machine.specs.type_definitions.Types.{Table, shape_of, fields, words, words_of as shape_words}
+use Rattle.machine.specs.typed_tree.Trees.{TypedTree, Name}
+use Rattle.machine.specs.flow_paths.Objects.{Typing, object_at, is_anonymous, view_of}
+use Rattle.machine.specs.flow_paths.Names.{waiting, name_of}
+use Rattle.machine.specs.flow_paths.Acts.{acts_in}
 use Rattle.machine.specs.Words.{element_count}
 use Rattle.machine.specs.Words as machine
 use Rattle.machine.specs.Memory.{Slot, Memory, Place, fresh, no_slot, slots_at, slots_of, words_of}

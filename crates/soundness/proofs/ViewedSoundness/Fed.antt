@@ -2,14 +2,14 @@
 -- expression until it is taken.
 use Rattle.std.proofs.Common.{◌≡◌, refl, sym, ap, ◌∙◌, subst, inl, inr, ℕ, suc, ◌+◌, ◌<◌, Bool, true, false, ◌||◌, List, [], ◌∷◌, ◌++◌, length, drop, arith, append-nil, append_assoc, length-append, if◌then◌else◌}
 use Rattle.std.specs.List.{AllByRecursion}
-use Rattle.place_names.specs.declared.fact.Fact.{Fact}
-use Rattle.type_definitions.specs.declared.table.Shape.{Shape}
-use Rattle.type_definitions.specs.Entries.{boolean}
-use Rattle.type_definitions.specs.Types.{shape_of, words, full, is_scalar}
-use Rattle.typed_tree.specs.Trees.{TypedTree, Name, Component as IntoComponent, Designated, Element, Call, Parens, Image, Unary, Binary, Short, IsNull, Aggregate, Alike, New, NoMore, More}
-use Rattle.flow_paths.specs.Objects.{Typing}
-use Rattle.flow_paths.specs.Names.{has_call, waiting}
-use Rattle.flow_paths.specs.Acts.{acts_in}
+use Rattle.machine.specs.place_names.declared.fact.Fact.{Fact}
+use Rattle.machine.specs.type_definitions.declared.table.Shape.{Shape}
+use Rattle.machine.specs.type_definitions.Entries.{boolean}
+use Rattle.machine.specs.type_definitions.Types.{shape_of, words, full, is_scalar}
+use Rattle.machine.specs.typed_tree.Trees.{TypedTree, Name, Component as IntoComponent, Designated, Element, Call, Parens, Image, Unary, Binary, Short, IsNull, Aggregate, Alike, New, NoMore, More}
+use Rattle.machine.specs.flow_paths.Objects.{Typing}
+use Rattle.machine.specs.flow_paths.Names.{has_call, waiting}
+use Rattle.machine.specs.flow_paths.Acts.{acts_in}
 use Rattle.machine.specs.Words.{default, fits_type}
 use Rattle.machine.specs.Words as machine
 use Rattle.machine.specs.Memory.{Memory}

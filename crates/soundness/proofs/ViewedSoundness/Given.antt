@@ -1,8 +1,8 @@
 -- What a formal that owns nothing sees: what its actual designates, in a frame of its own. Nothing that
 -- was moved meets its way, and it is foreign there.
 use Rattle.std.proofs.Common.{◌≡◌, refl, sym, ap, ◌∙◌, subst, ◌⊎◌, inl, inr, ℕ, suc, ◌<◌, Bool, true, false, List, Some, arith, if◌then◌else◌}
-use Rattle.place_names.specs.declared.fact.Fact.{Fact}
-use Rattle.flow_paths.specs.Objects.{Typing, is_package_object}
+use Rattle.machine.specs.place_names.declared.fact.Fact.{Fact}
+use Rattle.machine.specs.flow_paths.Objects.{Typing, is_package_object}
 use Rattle.soundness.specs.OwnedWays.Ways.{Step, OfVariable, OfRoot, Way, All, View, Under, Past, Named, base_of, number_of, name_of}
 use Rattle.soundness.proofs.OwnedWays.Dropped.{named_base}
 use Rattle.soundness.proofs.OwnedWays.Locations.{under_itself}
@@ -11,7 +11,7 @@ use Rattle.soundness.proofs.Around.{package_named}
 use Rattle.soundness.specs.OwnedLoans.Views.{on, Around, Views, expand, ExcusedBy, IsForeign, Viewed, Lifted, InPart}
 use Rattle.soundness.proofs.OwnedLoans.Ways.{Meet, meets_front, beginnings, under_on, on_under, lifted_way, next_of, in_part_way}
 use Rattle.soundness.proofs.OwnedLoans.Meeting.{next, no_part}
-use Rattle.place_names.specs.Names.{overlaps}
+use Rattle.machine.specs.place_names.Names.{overlaps}
 use Rattle.place_names.proofs.Names.{overlaps-sym}
 use Rattle.soundness.proofs.OwnedLoans.Safe.{Unlent, Unborrowed, designated_over, unlent_below, unborrowed_below, unmoved_below, over_below, apart_names, off_parts, off_view}
 use Rattle.soundness.proofs.OwnedLoans.Allowed.{Cleared, cleared_whole}

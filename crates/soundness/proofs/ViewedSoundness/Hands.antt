@@ -3,8 +3,8 @@
 use Rattle.std.proofs.Common.{◌≡◌, refl, sym, ap, ◌∙◌, subst, inl, inr, ℕ, suc, ◌==◌, true, List, [], ◌∷◌, ◌++◌, length, reverse, map, arith, append_assoc, length-append, if◌then◌else◌, Bool}
 use Rattle.std.proofs.lemmas.Bool.{false≢true}
 use mathlib.Core.List.{reverse_aux}
-use Rattle.place_names.specs.declared.fact.Fact.{Fact}
-use Rattle.type_definitions.specs.Types.{words}
+use Rattle.machine.specs.place_names.declared.fact.Fact.{Fact}
+use Rattle.machine.specs.type_definitions.Types.{words}
 use Rattle.machine.specs.Words as machine
 use Rattle.machine.specs.Memory.{Memory}
 use Rattle.machine.specs.Evaluate.{Here}
@@ -23,7 +23,7 @@ use Rattle.soundness.proofs.Defaults.{blank_word}
 use Rattle.soundness.proofs.Evaluated.{blank_hand, Keeps}
 use Rattle.soundness.proofs.Keeping.{less}
 use Rattle.soundness.proofs.Steps.{hand_top, hand_below, no_leaf}
-use Rattle.type_definitions.specs.Types.{full, is_scalar}
+use Rattle.machine.specs.type_definitions.Types.{full, is_scalar}
 use Rattle.soundness.specs.OwnedLoans.Views.{Around, Views, ExcusedBy, Viewed}
 use Rattle.soundness.proofs.OwnedLoans.Moves.{as_sound, same_viewed}
 use Rattle.soundness.specs.ViewedSoundness.Holds.{PartsAreNamed, Seeing}

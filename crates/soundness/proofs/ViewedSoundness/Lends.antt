@@ -1,20 +1,20 @@
 -- What declarations of borrowers and observers and assignments to them lead to: the view gets what
 -- its source has, and its way from it.
 use Rattle.std.proofs.Common.{◌≡◌, refl, sym, ap, ◌∙◌, subst, ◌⊎◌, inl, inr, ℕ, ◌<◌, Bool, true, false, not, ◌||◌, List, [], ◌∷◌, ◌++◌, flat_map, take, drop, length, Option, Some, None, if◌then◌else◌, ◌==◌, eqb-true, eq-eqb, ◌+◌, append-nil, arith, is_some}
-use Rattle.spark_base.specs.declared.position.Pos.{Pos}
+use Rattle.machine.specs.spark_base.declared.position.Pos.{Pos}
 use Rattle.soundness.proofs.Contents.{bool_cases}
-use Rattle.place_names.specs.declared.act.Act.{Act}
-use Rattle.place_names.specs.declared.act.Act.TheVariants as act
-use Rattle.place_names.specs.declared.fact.Fact.{Fact}
-use Rattle.place_names.specs.Names.{Name as PlaceName}
-use Rattle.place_names.specs.Facts.{adds, removes, effect}
-use Rattle.type_definitions.specs.declared.table.Shape.TheVariants as shape
-use Rattle.type_definitions.specs.Types.{Table, shape_of, words, words_of as shape_words, full, is_scalar, view_of as view_of_shape, parts, parts_of}
-use Rattle.typed_tree.specs.Trees.{TypedTree, Name, NoMore, More}
-use Rattle.flow_paths.specs.Objects.{Typing, object_at, is_anonymous, is_borrower, is_observer, view_of}
-use Rattle.flow_paths.specs.Names.{waiting as waits_in, name_of, written, source}
-use Rattle.flow_paths.specs.Scopes.{taken}
-use Rattle.flow_paths.specs.Acts.{acts_in, stored_acts, declared_acts, assigned_to, source_acts, index_acts, reborrow, observe, target_pos as acts_target_pos}
+use Rattle.machine.specs.place_names.declared.act.Act.{Act}
+use Rattle.machine.specs.place_names.declared.act.Act.TheVariants as act
+use Rattle.machine.specs.place_names.declared.fact.Fact.{Fact}
+use Rattle.machine.specs.place_names.Names.{Name as PlaceName}
+use Rattle.machine.specs.place_names.Facts.{adds, removes, effect}
+use Rattle.machine.specs.type_definitions.declared.table.Shape.TheVariants as shape
+use Rattle.machine.specs.type_definitions.Types.{Table, shape_of, words, words_of as shape_words, full, is_scalar, view_of as view_of_shape, parts, parts_of}
+use Rattle.machine.specs.typed_tree.Trees.{TypedTree, Name, NoMore, More}
+use Rattle.machine.specs.flow_paths.Objects.{Typing, object_at, is_anonymous, is_borrower, is_observer, view_of}
+use Rattle.machine.specs.flow_paths.Names.{waiting as waits_in, name_of, written, source}
+use Rattle.machine.specs.flow_paths.Scopes.{taken}
+use Rattle.machine.specs.flow_paths.Acts.{acts_in, stored_acts, declared_acts, assigned_to, source_acts, index_acts, reborrow, observe, target_pos as acts_target_pos}
 use Rattle.machine.specs.Words as machine
 use Rattle.machine.specs.Memory.{Memory, cell, stored, declared, Slot, fresh, variable_slots, Place, slots_at}
 use Rattle.machine.specs.Evaluate.{Now, AsView, Evaluated, Done, Raises, Traps, followed_by, evaluate, checked, value, viewed, place_of, steps_of}
@@ -34,14 +34,14 @@ use Rattle.soundness.specs.Typed.{Matches, IsCell, OwnsByShape, Kept}
 use Rattle.soundness.specs.TypedLaws.Needed.{Leads as LeadsTo}
 use Rattle.soundness.proofs.Contents.{all_checks}
 use Rattle.soundness.proofs.OwnedLoans.Clear.{clear_same}
-use Rattle.spark_base.specs.Lists.{Has}
+use Rattle.machine.specs.spark_base.Lists.{Has}
 use Rattle.spark_base.proofs.Lists.{Has-append_right}
 use Rattle.std.specs.Prelude.{filter}
 use Rattle.std.proofs.lemmas.Bool.{false≢true, true≢false}
-use Rattle.place_names.specs.declared.fact.Fact.TheVariants.{Moved, Lent}
-use Rattle.place_names.specs.declared.rule.Loan.TheVariants.{Observed}
+use Rattle.machine.specs.place_names.declared.fact.Fact.TheVariants.{Moved, Lent}
+use Rattle.machine.specs.place_names.declared.rule.Loan.TheVariants.{Observed}
 use Rattle.soundness.proofs.OwnedWays.Assigned.{kept_fact}
-use Rattle.place_names.specs.declared.selector.Sel.{Sel}
+use Rattle.machine.specs.place_names.declared.selector.Sel.{Sel}
 use Rattle.soundness.proofs.Numbers.{index_law}
 use Rattle.soundness.proofs.Scalars.{acts, acts_append, after_append, allows_both}
 use Rattle.soundness.proofs.Stays.{Quiet}

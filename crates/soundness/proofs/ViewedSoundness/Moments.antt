@@ -2,15 +2,15 @@
 -- and variables are declared and end.
 use Rattle.std.proofs.Common.{◌≡◌, refl, sym, ap, ◌∙◌, subst, inl, inr, ℕ, ◌+◌, ◌<◌, Bool, true, false, not, List, [], ◌∷◌, ◌++◌, take, drop, length, get_or, append-nil, arith}
 use Rattle.std.proofs.lemmas.Bool.{false≢true}
-use Rattle.spark_base.specs.declared.position.Pos.{Pos}
-use Rattle.place_names.specs.declared.selector.Sel.{Sel}
-use Rattle.place_names.specs.declared.act.Act.TheVariants.{Move, Write, EndScope}
-use Rattle.place_names.specs.declared.rule.Loan.TheVariants.{Borrowed}
-use Rattle.place_names.specs.declared.fact.Fact.{Fact}
-use Rattle.place_names.specs.Names.{extend}
-use Rattle.place_names.specs.Facts.{effect}
-use Rattle.type_definitions.specs.Types.{words, parts}
-use Rattle.flow_paths.specs.Objects.{Typing}
+use Rattle.machine.specs.spark_base.declared.position.Pos.{Pos}
+use Rattle.machine.specs.place_names.declared.selector.Sel.{Sel}
+use Rattle.machine.specs.place_names.declared.act.Act.TheVariants.{Move, Write, EndScope}
+use Rattle.machine.specs.place_names.declared.rule.Loan.TheVariants.{Borrowed}
+use Rattle.machine.specs.place_names.declared.fact.Fact.{Fact}
+use Rattle.machine.specs.place_names.Names.{extend}
+use Rattle.machine.specs.place_names.Facts.{effect}
+use Rattle.machine.specs.type_definitions.Types.{words, parts}
+use Rattle.machine.specs.flow_paths.Objects.{Typing}
 use Rattle.machine.specs.Words.{access_offsets}
 use Rattle.machine.specs.Words as machine
 use Rattle.machine.specs.Memory.{Slot, Memory, HeapCell, Place, fresh, cell, no_slot, slots_at, slots_of, words_of, gone_at, stored, moved_out, undeclared, with_new_cell}

@@ -2,11 +2,11 @@
 -- cell.
 use Rattle.std.proofs.Common.{◌≡◌, refl, sym, ap, ◌∙◌, subst, ◌⊎◌, inl, inr, ℕ, ◌<◌, Bool, true, false, not, ◌||◌, List, [], ◌∷◌, append-nil, map, take, drop, length, get_or, arith, Option, Some, None, if◌then◌else◌}
 use Rattle.std.proofs.lemmas.Bool.{false≢true}
-use Rattle.place_names.specs.declared.fact.Fact.{Fact}
-use Rattle.type_definitions.specs.declared.table.Shape.{Shape}
-use Rattle.type_definitions.specs.declared.table.Shape.TheVariants as shape
-use Rattle.type_definitions.specs.Types.{Table, is_scalar, shape_of, fields, words, words_of, view_of as view_of_shape}
-use Rattle.flow_paths.specs.Objects.{Typing, object_at, designated, designated_of, is_anonymous, view_of}
+use Rattle.machine.specs.place_names.declared.fact.Fact.{Fact}
+use Rattle.machine.specs.type_definitions.declared.table.Shape.{Shape}
+use Rattle.machine.specs.type_definitions.declared.table.Shape.TheVariants as shape
+use Rattle.machine.specs.type_definitions.Types.{Table, is_scalar, shape_of, fields, words, words_of, view_of as view_of_shape}
+use Rattle.machine.specs.flow_paths.Objects.{Typing, object_at, designated, designated_of, is_anonymous, view_of}
 use Rattle.machine.specs.Words.{component_type, element_type, element_count}
 use Rattle.machine.specs.Words as machine
 use Rattle.machine.specs.Memory.{Slot, Memory, Place, cell, no_slot, variable_slots, slots_at, slots_of, words_of as place_words}

@@ -2,17 +2,17 @@
 -- targets that aren't views, and ends of scopes.
 use Rattle.std.proofs.Common.{◌≡◌, refl, sym, ap, ◌∙◌, subst, ◌⊎◌, inl, inr, ℕ, Bool, true, false, not, ◌&&◌, ◌||◌, List, [], ◌∷◌, ◌++◌, map, flat_map, reverse, take, drop, length, nat_lt, Some, None, if◌then◌else◌, eq-eqb}
 use Rattle.std.proofs.lemmas.Bool.{true≢false}
-use Rattle.spark_base.specs.declared.position.Pos.{Pos}
-use Rattle.place_names.specs.declared.act.Act.TheVariants as act
-use Rattle.place_names.specs.declared.fact.Fact.{Fact}
-use Rattle.place_names.specs.Names.{Name as PlaceName}
-use Rattle.place_names.specs.Facts.{effect}
-use Rattle.type_definitions.specs.Types.{Table, full}
-use Rattle.typed_tree.specs.Trees.{TypedTree, TypedCode, Name, NoMore}
-use Rattle.flow_paths.specs.Objects.{Typing, object_at, is_anonymous, is_borrowing, is_observing, is_borrower, is_observer, is_variable}
-use Rattle.flow_paths.specs.Names.{has_call, waiting as waits_in, whole, whole_object, written, source}
-use Rattle.flow_paths.specs.Scopes.{taken}
-use Rattle.flow_paths.specs.Acts.{acts_in, stored_acts, assigned_to, source_acts, index_acts, reborrow, observe, target_pos as acts_target_pos}
+use Rattle.machine.specs.spark_base.declared.position.Pos.{Pos}
+use Rattle.machine.specs.place_names.declared.act.Act.TheVariants as act
+use Rattle.machine.specs.place_names.declared.fact.Fact.{Fact}
+use Rattle.machine.specs.place_names.Names.{Name as PlaceName}
+use Rattle.machine.specs.place_names.Facts.{effect}
+use Rattle.machine.specs.type_definitions.Types.{Table, full}
+use Rattle.machine.specs.typed_tree.Trees.{TypedTree, TypedCode, Name, NoMore}
+use Rattle.machine.specs.flow_paths.Objects.{Typing, object_at, is_anonymous, is_borrowing, is_observing, is_borrower, is_observer, is_variable}
+use Rattle.machine.specs.flow_paths.Names.{has_call, waiting as waits_in, whole, whole_object, written, source}
+use Rattle.machine.specs.flow_paths.Scopes.{taken}
+use Rattle.machine.specs.flow_paths.Acts.{acts_in, stored_acts, assigned_to, source_acts, index_acts, reborrow, observe, target_pos as acts_target_pos}
 use Rattle.machine.specs.Words as machine
 use Rattle.machine.specs.Memory.{Memory, stored, given_up, undeclared}
 use Rattle.machine.specs.Evaluate.{Here, Now, AsValue, AsView, Evaluated, Done, Raises, Traps, followed_by, evaluate, checked, value, viewed, place_of, steps_of}
@@ -35,12 +35,12 @@ use Rattle.soundness.proofs.Contents.{bool_cases, all_checks, checks_made}
 use Rattle.soundness.proofs.Steps.{alike}
 use Rattle.soundness.proofs.OwnedLoans.Clear.{refused}
 use Rattle.soundness.proofs.ViewedSoundness.Moments.{ended_viewed}
-use Rattle.spark_base.specs.Lists.{Has}
-use Rattle.place_names.specs.declared.fact.Fact.TheVariants.{Moved, Lent}
-use Rattle.place_names.specs.declared.rule.Loan.{Loan}
-use Rattle.place_names.specs.declared.rule.Loan.TheVariants.{Observed}
-use Rattle.place_names.specs.declared.rule.Rule.TheVariants.{O8}
-use Rattle.place_names.specs.Rules.{breaks_O8}
+use Rattle.machine.specs.spark_base.Lists.{Has}
+use Rattle.machine.specs.place_names.declared.fact.Fact.TheVariants.{Moved, Lent}
+use Rattle.machine.specs.place_names.declared.rule.Loan.{Loan}
+use Rattle.machine.specs.place_names.declared.rule.Loan.TheVariants.{Observed}
+use Rattle.machine.specs.place_names.declared.rule.Rule.TheVariants.{O8}
+use Rattle.machine.specs.place_names.Rules.{breaks_O8}
 use Rattle.soundness.proofs.Numbers.{index_law}
 use Rattle.soundness.proofs.Lasting.{keeps, removed_kept}
 use Rattle.soundness.proofs.Raised.{raised_owned}

@@ -2,15 +2,15 @@
 -- stands, whose word is null or the number of the cell that it designates.
 use Rattle.std.proofs.Common.{◌≡◌, refl, sym, ap, ◌∙◌, subst, inl, inr, ℕ, Bool, true, false, not, ◌&&◌, ◌||◌, List, [], ◌∷◌, map, get_or}
 use Rattle.std.proofs.lemmas.Bool.{false≢true}
-use Rattle.spark_base.specs.declared.position.Pos.{Pos}
-use Rattle.place_names.specs.declared.fact.Fact.{Fact}
-use Rattle.place_names.specs.Names.{Name as PlaceName}
-use Rattle.type_definitions.specs.declared.table.Shape.TheVariants as shape
-use Rattle.type_definitions.specs.Types.{shape_of, view_of as view_of_shape}
-use Rattle.typed_tree.specs.Trees.{TypedTree, Name}
-use Rattle.flow_paths.specs.Objects.{Typing, object_at, is_anonymous, view_of}
-use Rattle.flow_paths.specs.Names.{has_call, waiting, name_of}
-use Rattle.flow_paths.specs.Acts.{acts_in}
+use Rattle.machine.specs.spark_base.declared.position.Pos.{Pos}
+use Rattle.machine.specs.place_names.declared.fact.Fact.{Fact}
+use Rattle.machine.specs.place_names.Names.{Name as PlaceName}
+use Rattle.machine.specs.type_definitions.declared.table.Shape.TheVariants as shape
+use Rattle.machine.specs.type_definitions.Types.{shape_of, view_of as view_of_shape}
+use Rattle.machine.specs.typed_tree.Trees.{TypedTree, Name}
+use Rattle.machine.specs.flow_paths.Objects.{Typing, object_at, is_anonymous, view_of}
+use Rattle.machine.specs.flow_paths.Names.{has_call, waiting, name_of}
+use Rattle.machine.specs.flow_paths.Acts.{acts_in}
 use Rattle.machine.specs.Words as machine
 use Rattle.machine.specs.Memory.{Slot, Memory, Place, no_slot, slots_at, variable_slots, words_of}
 use Rattle.machine.specs.Evaluate.{Here, Now, AsView, Evaluated, Done, Raises, Traps, followed_by, evaluate, steps_of, walked, variable_place, held_or_taken}

@@ -1,7 +1,7 @@
 -- Nothing that is gone for others meets what a name stands for that may be changed through.
 use Rattle.std.proofs.Common.{◌≡◌, inl, inr, ℕ, false, List, Bool}
-use Rattle.place_names.specs.declared.fact.Fact.{Fact}
-use Rattle.flow_paths.specs.Objects.{Typing}
+use Rattle.machine.specs.place_names.declared.fact.Fact.{Fact}
+use Rattle.machine.specs.flow_paths.Objects.{Typing}
 use Rattle.soundness.specs.OwnedWays.Ways.{Way, View, Named, number_of}
 use Rattle.soundness.specs.Seen.{IsNear, home}
 use Rattle.soundness.proofs.Near.{named_near, near_under, under_near}

@@ -2,16 +2,16 @@
 -- evaluated, the place of the target found, the leak checks made, and the value stored.
 use Rattle.std.proofs.Common.{◌≡◌, refl, sym, ap, ◌∙◌, subst, inl, ℕ, ◌+◌, true, false, Bool, not, List, [], ◌∷◌, ◌++◌, take, drop, length, get_or, append_assoc}
 use Rattle.std.proofs.lemmas.Bool.{false≢true}
-use Rattle.spark_base.specs.declared.position.Pos.{Pos}
-use Rattle.place_names.specs.declared.act.Act.{Act}
-use Rattle.place_names.specs.declared.act.Act.TheVariants as act
-use Rattle.place_names.specs.declared.fact.Fact.{Fact}
-use Rattle.place_names.specs.Facts.{effect}
-use Rattle.type_definitions.specs.Types.{shape_of, words}
-use Rattle.typed_tree.specs.Trees.{TypedTree, Name}
-use Rattle.flow_paths.specs.Objects.{object_at, is_anonymous, view_of}
-use Rattle.flow_paths.specs.Names.{has_call, waiting, name_of}
-use Rattle.flow_paths.specs.Acts.{acts_in, stored_acts}
+use Rattle.machine.specs.spark_base.declared.position.Pos.{Pos}
+use Rattle.machine.specs.place_names.declared.act.Act.{Act}
+use Rattle.machine.specs.place_names.declared.act.Act.TheVariants as act
+use Rattle.machine.specs.place_names.declared.fact.Fact.{Fact}
+use Rattle.machine.specs.place_names.Facts.{effect}
+use Rattle.machine.specs.type_definitions.Types.{shape_of, words}
+use Rattle.machine.specs.typed_tree.Trees.{TypedTree, Name}
+use Rattle.machine.specs.flow_paths.Objects.{object_at, is_anonymous, view_of}
+use Rattle.machine.specs.flow_paths.Names.{has_call, waiting, name_of}
+use Rattle.machine.specs.flow_paths.Acts.{acts_in, stored_acts}
 use Rattle.machine.specs.Words as machine
 use Rattle.machine.specs.Memory.{Memory, Base, Place, fresh, no_slot, slots_at, variable_slots, stored}
 use Rattle.machine.specs.Memory as memory

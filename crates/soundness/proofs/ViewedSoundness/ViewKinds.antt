@@ -2,15 +2,15 @@
 use Rattle.std.proofs.Common.{◌≡◌, refl, sym, ap, ◌∙◌, ℕ, Bool, true, false, not, ◌&&◌, ◌||◌, [], length}
 use Rattle.std.specs.List.{list_any}
 use Rattle.std.proofs.lemmas.Bool.{false≢true, true≢false}
-use Rattle.place_names.specs.Names.{Name as PlaceName}
-use Rattle.type_definitions.specs.declared.judgement.View.{View}
-use Rattle.type_definitions.specs.declared.judgement.View.TheVariants as view
-use Rattle.type_definitions.specs.declared.table.Shape.{Shape}
-use Rattle.type_definitions.specs.declared.table.Shape.TheVariants as shape
-use Rattle.type_definitions.specs.Types.{Table, is_nil, is_owning, shape_of, components_of, full, view_of as view_of_shape}
-use Rattle.typed_tree.specs.declared.object.ObjectKind.{ObjectKind}
-use Rattle.typed_tree.specs.declared.object.ObjectKind.TheVariants as object_kind
-use Rattle.flow_paths.specs.Objects.{Typing, object_at, is_formal, is_formal_kind, is_anonymous, is_borrowing, is_named_access, is_observing, is_observer, is_variable, view_of}
+use Rattle.machine.specs.place_names.Names.{Name as PlaceName}
+use Rattle.machine.specs.type_definitions.declared.judgement.View.{View}
+use Rattle.machine.specs.type_definitions.declared.judgement.View.TheVariants as view
+use Rattle.machine.specs.type_definitions.declared.table.Shape.{Shape}
+use Rattle.machine.specs.type_definitions.declared.table.Shape.TheVariants as shape
+use Rattle.machine.specs.type_definitions.Types.{Table, is_nil, is_owning, shape_of, components_of, full, view_of as view_of_shape}
+use Rattle.machine.specs.typed_tree.declared.object.ObjectKind.{ObjectKind}
+use Rattle.machine.specs.typed_tree.declared.object.ObjectKind.TheVariants as object_kind
+use Rattle.machine.specs.flow_paths.Objects.{Typing, object_at, is_formal, is_formal_kind, is_anonymous, is_borrowing, is_named_access, is_observing, is_observer, is_variable, view_of}
 use Rattle.machine.specs.Words.{count_of}
 use Rattle.machine.specs.Owners.{is_in_formal, is_in}
 use Rattle.soundness.specs.Seen.{is_view_formal}

@@ -1,11 +1,11 @@
 -- Where a name of owners leads, beside formals that own nothing: as names lead where all variables
 -- own.
 use Rattle.std.proofs.Common.{◌≡◌, refl, sym, ap, ◌∙◌, subst, inl, inr, ℕ, ◌+◌, ◌*◌, ◌<◌, Bool, true, false, List, [], ◌∷◌, map, sum, take, drop, length, get_or, lt-ltb, drop-cons, arith, if◌then◌else◌}
-use Rattle.type_definitions.specs.declared.table.Component.{Component as Part}
-use Rattle.type_definitions.specs.declared.table.Shape.{Shape}
-use Rattle.type_definitions.specs.declared.table.Shape.TheVariants as shape
-use Rattle.type_definitions.specs.Types.{shape_of, components_of, fields, words, words_of, view_of, is_scalar}
-use Rattle.flow_paths.specs.Objects.{Typing, designated, designated_of}
+use Rattle.machine.specs.type_definitions.declared.table.Component.{Component as Part}
+use Rattle.machine.specs.type_definitions.declared.table.Shape.{Shape}
+use Rattle.machine.specs.type_definitions.declared.table.Shape.TheVariants as shape
+use Rattle.machine.specs.type_definitions.Types.{shape_of, components_of, fields, words, words_of, view_of, is_scalar}
+use Rattle.machine.specs.flow_paths.Objects.{Typing, designated, designated_of}
 use Rattle.machine.specs.Words.{no_component, component_type, words_before, element_of, count_of, element_type, element_count}
 use Rattle.machine.specs.Words as machine
 use Rattle.machine.specs.Memory.{Slot, Memory, Place, cell, no_slot, slots_at, slots_of}

@@ -1,17 +1,17 @@
 -- When no leak check of a step fails that is excused, and so of a run.
 use Rattle.std.specs.Prelude.{◌≡◌, ◌⊎◌, ℕ, suc, false, List, [], ◌∷◌, ◌++◌, get_or}
-use Rattle.spark_base.specs.Lists.{Has}
-use Rattle.spark_base.specs.declared.position.Pos.{Pos}
-use Rattle.place_names.specs.declared.selector.Sel.{Sel}
-use Rattle.place_names.specs.declared.fact.Fact.{Fact}
-use Rattle.place_names.specs.declared.fact.Fact.TheVariants.{Moved}
-use Rattle.place_names.specs.Names.{Name, extend, has_elem}
-use Rattle.flow_paths.specs.declared.report.Effects.{Effects}
-use Rattle.flow_paths.specs.declared.point.LeakSpot.{LeakSpot}
-use Rattle.flow_paths.specs.Acts.{spot}
-use Rattle.flow_paths.specs.Laid.{FlowProgram}
-use Rattle.flow_paths.specs.Effects.{path_points}
-use Rattle.flow_paths.specs.LeakPlan.{IsExcused}
+use Rattle.machine.specs.spark_base.Lists.{Has}
+use Rattle.machine.specs.spark_base.declared.position.Pos.{Pos}
+use Rattle.machine.specs.place_names.declared.selector.Sel.{Sel}
+use Rattle.machine.specs.place_names.declared.fact.Fact.{Fact}
+use Rattle.machine.specs.place_names.declared.fact.Fact.TheVariants.{Moved}
+use Rattle.machine.specs.place_names.Names.{Name, extend, has_elem}
+use Rattle.machine.specs.flow_paths.declared.report.Effects.{Effects}
+use Rattle.machine.specs.flow_paths.declared.point.LeakSpot.{LeakSpot}
+use Rattle.machine.specs.flow_paths.Acts.{spot}
+use Rattle.machine.specs.flow_paths.Laid.{FlowProgram}
+use Rattle.machine.specs.flow_paths.Effects.{path_points}
+use Rattle.machine.specs.flow_paths.LeakPlan.{IsExcused}
 use Rattle.machine.specs.States.{Frame, Leak, Outcome, Goes, Ends, sub_of}
 use Rattle.machine.specs.Run.{no_point, main_of, run_of, moment}
 use Rattle.soundness.specs.OwnedWays.Ways.{OfVariable, OfHand, Way, Object, Lost, Into, All}

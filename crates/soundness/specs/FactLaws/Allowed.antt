@@ -1,12 +1,12 @@
 -- Acts that no fact before them forbids.
 use Rattle.std.specs.Prelude.{◌≡◌, ℕ, List, ◌∷◌, ◌++◌, None}
-use Rattle.spark_base.specs.Lists.{Has}
-use Rattle.place_names.specs.declared.act.Act.{Act}
-use Rattle.place_names.specs.declared.act.Placed.{Placed}
-use Rattle.place_names.specs.declared.fact.Fact.{Fact}
-use Rattle.place_names.specs.Facts.{facts_after}
-use Rattle.place_names.specs.Rules.{forbids}
-use Rattle.flow_paths.specs.Paths.{PathPoint, path_point, ControlPath, facts_within}
+use Rattle.machine.specs.spark_base.Lists.{Has}
+use Rattle.machine.specs.place_names.declared.act.Act.{Act}
+use Rattle.machine.specs.place_names.declared.act.Placed.{Placed}
+use Rattle.machine.specs.place_names.declared.fact.Fact.{Fact}
+use Rattle.machine.specs.place_names.Facts.{facts_after}
+use Rattle.machine.specs.place_names.Rules.{forbids}
+use Rattle.machine.specs.flow_paths.Paths.{PathPoint, path_point, ControlPath, facts_within}
 
 -- Each act of a list is allowed by each fact that the acts before it leave.
 abbrev pub AreAllowed : List Act → Type 0

@@ -1,10 +1,10 @@
 -- Facts that are apart.
 use Rattle.std.specs.Prelude.{◌≡◌, Bool, false, List}
-use Rattle.spark_base.specs.Lists.{Has}
-use Rattle.place_names.specs.declared.rule.Loan.TheVariants.{Borrowed, Observed}
-use Rattle.place_names.specs.declared.fact.Fact.{Fact}
-use Rattle.place_names.specs.declared.fact.Fact.TheVariants.{Moved, Lent}
-use Rattle.place_names.specs.Names.{overlaps}
+use Rattle.machine.specs.spark_base.Lists.{Has}
+use Rattle.machine.specs.place_names.declared.rule.Loan.TheVariants.{Borrowed, Observed}
+use Rattle.machine.specs.place_names.declared.fact.Fact.{Fact}
+use Rattle.machine.specs.place_names.declared.fact.Fact.TheVariants.{Moved, Lent}
+use Rattle.machine.specs.place_names.Names.{overlaps}
 
 -- A moved place overlaps one that is lent, or a borrowed place overlaps one that is lent.
 abbrev pub clashes : Fact → Fact → Bool

@@ -1,9 +1,9 @@
 -- Parts of a type along steps, and where they stand among its words.
 use Rattle.std.specs.Prelude.{◌≡◌, ℕ, ◌+◌, ◌*◌, Bool, true, false, ◌&&◌, List, [], ◌∷◌, ◌++◌, length, nat_lt}
-use Rattle.place_names.specs.declared.selector.Sel.{Sel}
-use Rattle.type_definitions.specs.declared.table.Shape.{Shape}
-use Rattle.type_definitions.specs.declared.table.Shape.TheVariants as shape
-use Rattle.type_definitions.specs.Types.{Table, shape_of, fields, words, words_of, parts, parts_of}
+use Rattle.machine.specs.place_names.declared.selector.Sel.{Sel}
+use Rattle.machine.specs.type_definitions.declared.table.Shape.{Shape}
+use Rattle.machine.specs.type_definitions.declared.table.Shape.TheVariants as shape
+use Rattle.machine.specs.type_definitions.Types.{Table, shape_of, fields, words, words_of, parts, parts_of}
 use Rattle.soundness.specs.OwnedWays.Ways.{Step, Component, Element, sel_of}
 use Rattle.machine.specs.Words.{words_before, component_type, element_type, element_count}
 

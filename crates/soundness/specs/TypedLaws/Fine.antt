@@ -1,25 +1,25 @@
 -- What typing gives: an expression has the type that its place takes, and its names stay within
 -- what they name. What soundness needs (`Gives`) and what the executor needs (sorts) both follow
 -- from it.
-use Rattle.type_definitions.specs.declared.table.Component.{Component}
-use Rattle.type_definitions.specs.Expressions.{by_name, no_component}
+use Rattle.machine.specs.type_definitions.declared.table.Component.{Component}
+use Rattle.machine.specs.type_definitions.Expressions.{by_name, no_component}
 use Rattle.std.specs.Prelude.{List, ◌≡◌, ◌⊎◌, ◌<◌, ℕ, suc, Bool, true, false, ◌||◌, length, get_or, ℤ, Some, if◌then◌else◌}
-use Rattle.resolved_tree.specs.declared.operator.Operator.{Operator}
-use Rattle.resolved_tree.specs.declared.operator.Operator.TheVariants as operator
-use Rattle.type_definitions.specs.Types.{meant_type}
-use Rattle.resolved_tree.specs.Trees.{Tree, Number, Text, Null, Named, Parens, Unary, Binary, Aggregate, Others, New, Selected, All, Applied, Attr, Argument, NoMore, More}
-use Rattle.type_definitions.specs.declared.table.Entry.TheVariants as entry
-use Rattle.type_definitions.specs.declared.table.ObjectInfo.{ObjectInfo}
-use Rattle.type_definitions.specs.declared.table.Shape.{Shape}
-use Rattle.type_definitions.specs.declared.table.Shape.TheVariants as shape
-use Rattle.type_definitions.specs.declared.table.Known.{Known}
-use Rattle.type_definitions.specs.Types.{Table, shape_of, fields, base, full, is_owning, is_scalar, is_untyped, is_bounded, owns_of, words, words_of}
-use Rattle.type_definitions.specs.Entries.{entry_of, integer, boolean, same_word}
-use Rattle.type_definitions.specs.Expressions.{is_arithmetic, is_logical, operand_type, unary_type, profile_of}
-use Rattle.typed_tree.specs.Trees.{TypedTree}
-use Rattle.typed_tree.specs.Trees as typed
-use Rattle.typed_tree.specs.Expressions.{Site, object_number, sub_number}
-use Rattle.flow_paths.specs.Objects.{Typing, object_at, sub_at}
+use Rattle.machine.specs.resolved_tree.declared.operator.Operator.{Operator}
+use Rattle.machine.specs.resolved_tree.declared.operator.Operator.TheVariants as operator
+use Rattle.machine.specs.type_definitions.Types.{meant_type}
+use Rattle.machine.specs.resolved_tree.Trees.{Tree, Number, Text, Null, Named, Parens, Unary, Binary, Aggregate, Others, New, Selected, All, Applied, Attr, Argument, NoMore, More}
+use Rattle.machine.specs.type_definitions.declared.table.Entry.TheVariants as entry
+use Rattle.machine.specs.type_definitions.declared.table.ObjectInfo.{ObjectInfo}
+use Rattle.machine.specs.type_definitions.declared.table.Shape.{Shape}
+use Rattle.machine.specs.type_definitions.declared.table.Shape.TheVariants as shape
+use Rattle.machine.specs.type_definitions.declared.table.Known.{Known}
+use Rattle.machine.specs.type_definitions.Types.{Table, shape_of, fields, base, full, is_owning, is_scalar, is_untyped, is_bounded, owns_of, words, words_of}
+use Rattle.machine.specs.type_definitions.Entries.{entry_of, integer, boolean, same_word}
+use Rattle.machine.specs.type_definitions.Expressions.{is_arithmetic, is_logical, operand_type, unary_type, profile_of}
+use Rattle.machine.specs.typed_tree.Trees.{TypedTree}
+use Rattle.machine.specs.typed_tree.Trees as typed
+use Rattle.machine.specs.typed_tree.Expressions.{Site, object_number, sub_number}
+use Rattle.machine.specs.flow_paths.Objects.{Typing, object_at, sub_at}
 use Rattle.run_values.specs.Arithmetic.{is_integer}
 use Rattle.machine.specs.Words.{component_type}
 use Rattle.machine.specs.Evaluate.{part_type}

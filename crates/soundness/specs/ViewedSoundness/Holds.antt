@@ -2,17 +2,17 @@
 -- be those of views.
 use Rattle.std.specs.Prelude.{◌≡◌, ℕ, Bool, true, false, not, ◌&&◌, ◌||◌, ◌==◌, List, [], ◌∷◌, Some, get_or, is_some}
 use Rattle.std.specs.List.{list_any}
-use Rattle.place_names.specs.declared.selector.Sel.TheVariants.{Deref}
-use Rattle.place_names.specs.declared.act.Mode.TheVariants.{In}
-use Rattle.place_names.specs.Names.{Name, extend}
-use Rattle.place_names.specs.declared.act.Act.{Act}
-use Rattle.place_names.specs.declared.act.Act.TheVariants.{Move, Write, Free, Actual}
-use Rattle.type_definitions.specs.declared.table.Shape.TheVariants as shape
-use Rattle.type_definitions.specs.declared.judgement.View.{View}
-use Rattle.type_definitions.specs.declared.judgement.View.TheVariants as view
-use Rattle.type_definitions.specs.Types.{Table, shape_of, is_nil}
+use Rattle.machine.specs.place_names.declared.selector.Sel.TheVariants.{Deref}
+use Rattle.machine.specs.place_names.declared.act.Mode.TheVariants.{In}
+use Rattle.machine.specs.place_names.Names.{Name, extend}
+use Rattle.machine.specs.place_names.declared.act.Act.{Act}
+use Rattle.machine.specs.place_names.declared.act.Act.TheVariants.{Move, Write, Free, Actual}
+use Rattle.machine.specs.type_definitions.declared.table.Shape.TheVariants as shape
+use Rattle.machine.specs.type_definitions.declared.judgement.View.{View}
+use Rattle.machine.specs.type_definitions.declared.judgement.View.TheVariants as view
+use Rattle.machine.specs.type_definitions.Types.{Table, shape_of, is_nil}
 use Rattle.machine.specs.Owners.{is_in_formal}
-use Rattle.flow_paths.specs.Objects.{Signature, Typing, object_at, is_anonymous, is_named_access, is_observer, view_of}
+use Rattle.machine.specs.flow_paths.Objects.{Signature, Typing, object_at, is_anonymous, is_named_access, is_observer, view_of}
 use Rattle.machine.specs.Words.{Word, Cell, component_type, element_type}
 use Rattle.machine.specs.Memory.{Memory, variable_slots, no_slot}
 use Rattle.soundness.specs.OwnedWays.Ways.{Step, OfVariable, OfHand, Way, Object, Lost, Into, All, Named}

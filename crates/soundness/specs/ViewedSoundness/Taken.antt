@@ -1,11 +1,11 @@
 -- The values that an expression takes: results of functions, and truth values of short circuits.
 use Rattle.std.specs.Prelude.{◌≡◌, ◌⊎◌, ℕ, true, List, [], ◌∷◌, ◌++◌, length, Option, Some, None, if◌then◌else◌}
 use Rattle.std.specs.List.{AllByRecursion}
-use Rattle.type_definitions.specs.Entries.{integer, boolean}
-use Rattle.type_definitions.specs.Types.{full, is_scalar, words}
-use Rattle.typed_tree.specs.Trees.{TypedTree, Name, Component, Designated, Element, Call, Image, Parens, Unary, Binary, Short, IsNull, Aggregate, Alike, New, More}
-use Rattle.flow_paths.specs.Objects.{Typing, sub_at}
-use Rattle.flow_paths.specs.Names.{has_call}
+use Rattle.machine.specs.type_definitions.Entries.{integer, boolean}
+use Rattle.machine.specs.type_definitions.Types.{full, is_scalar, words}
+use Rattle.machine.specs.typed_tree.Trees.{TypedTree, Name, Component, Designated, Element, Call, Image, Parens, Unary, Binary, Short, IsNull, Aggregate, Alike, New, More}
+use Rattle.machine.specs.flow_paths.Objects.{Typing, sub_at}
+use Rattle.machine.specs.flow_paths.Names.{has_call}
 use Rattle.machine.specs.States.{Waiting}
 
 -- Each call that gives a value, or a part of one, has a result of a scalar type.

@@ -2,11 +2,11 @@
 -- and copied back nothing is gone: so it is with formals of scalar types.
 use Rattle.std.proofs.Common.{◌≡◌, refl, sym, subst, ℕ, suc, Bool, true, false, List, [], ◌∷◌, ◌++◌, length, nat_le, if◌then◌else◌, ◌∙◌}
 use Rattle.std.proofs.lemmas.Bool.{true≢false}
-use Rattle.spark_base.specs.declared.position.Pos.{Pos}
-use Rattle.type_definitions.specs.Types.{full}
-use Rattle.typed_tree.specs.Trees.{TypedTree, More}
-use Rattle.flow_paths.specs.Objects.{Typing, object_at, sub_at, passings}
-use Rattle.flow_paths.specs.Names.{written}
+use Rattle.machine.specs.spark_base.declared.position.Pos.{Pos}
+use Rattle.machine.specs.type_definitions.Types.{full}
+use Rattle.machine.specs.typed_tree.Trees.{TypedTree, More}
+use Rattle.machine.specs.flow_paths.Objects.{Typing, object_at, sub_at, passings}
+use Rattle.machine.specs.flow_paths.Names.{written}
 use Rattle.machine.specs.Words.{fits_type}
 use Rattle.machine.specs.Words as machine
 use Rattle.machine.specs.Memory.{Memory, OfVariable, Place, slots_of, words_of, stored, moved_out, declared, without_frame, cell, Base, OfCell}

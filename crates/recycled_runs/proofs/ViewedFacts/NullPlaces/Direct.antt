@@ -1,10 +1,10 @@
 -- Names that go through no access value.
 use Rattle.std.proofs.Common.{◌≡◌, refl, Bool, true, false, List, [], ◌∷◌, ◌++◌}
 use Rattle.std.proofs.lemmas.Bool.{false≢true}
-use Rattle.place_names.specs.declared.selector.Sel.{Sel}
-use Rattle.place_names.specs.declared.selector.Sel.TheVariants as sel
-use Rattle.typed_tree.specs.Trees.{TypedTree, Component as IntoComponent, Designated, Element}
-use Rattle.flow_paths.specs.Names.{selectors}
+use Rattle.machine.specs.place_names.declared.selector.Sel.{Sel}
+use Rattle.machine.specs.place_names.declared.selector.Sel.TheVariants as sel
+use Rattle.machine.specs.typed_tree.Trees.{TypedTree, Component as IntoComponent, Designated, Element}
+use Rattle.machine.specs.flow_paths.Names.{selectors}
 use Rattle.soundness.specs.OwnedWays.Ways.{Way, Object, Past}
 use Rattle.soundness.specs.OwnedWays.Ways as ways
 use Rattle.soundness.specs.Sound.{goes_through_none}

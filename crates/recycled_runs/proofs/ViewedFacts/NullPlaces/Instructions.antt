@@ -2,24 +2,24 @@
 use Rattle.std.proofs.Common.{◌≡◌, refl, sym, ap, ◌∙◌, subst, inl, inr, ℕ, ◌+◌, Bool, true, false, not, ◌&&◌, List, [], ◌∷◌, ◌++◌, drop, length, nat_lt, append_assoc, append-nil, ℤ, Option, Some, None, if◌then◌else◌}
 use Rattle.std.specs.Prelude.{int_le}
 use Rattle.std.proofs.lemmas.Bool.{true≢false}
-use Rattle.spark_base.specs.declared.position.Pos.{Pos}
-use Rattle.place_names.specs.declared.act.Act.{Act}
-use Rattle.place_names.specs.declared.act.Act.TheVariants as act
-use Rattle.place_names.specs.declared.act.Mode.TheVariants as mode
-use Rattle.place_names.specs.declared.fact.Fact.{Fact}
-use Rattle.place_names.specs.Names.{Name as PlaceName}
-use Rattle.place_names.specs.Rules.{breaks_O3}
-use Rattle.type_definitions.specs.declared.table.Shape.TheVariants as shape
-use Rattle.type_definitions.specs.Types.{shape_of, full, is_scalar}
-use Rattle.typed_tree.specs.declared.node.ShortCircuit.{ShortCircuit}
-use Rattle.typed_tree.specs.Trees.{TypedTree, TypedCode, Name, NoMore, More}
-use Rattle.flow_paths.specs.Instructions.{Skip, Fall}
-use Rattle.flow_paths.specs.Objects.{Typing, object_at, designated, is_anonymous}
-use Rattle.flow_paths.specs.Names.{has_call, waiting as waits_in, name_of}
-use Rattle.flow_paths.specs.Acts.{acts_in, stored_acts, source_acts}
-use Rattle.run_values.specs.declared.items.Item.{Item}
-use Rattle.run_values.specs.declared.items.Item.TheVariants as item
-use Rattle.run_values.specs.Items.{next_item}
+use Rattle.machine.specs.spark_base.declared.position.Pos.{Pos}
+use Rattle.machine.specs.place_names.declared.act.Act.{Act}
+use Rattle.machine.specs.place_names.declared.act.Act.TheVariants as act
+use Rattle.machine.specs.place_names.declared.act.Mode.TheVariants as mode
+use Rattle.machine.specs.place_names.declared.fact.Fact.{Fact}
+use Rattle.machine.specs.place_names.Names.{Name as PlaceName}
+use Rattle.machine.specs.place_names.Rules.{breaks_O3}
+use Rattle.machine.specs.type_definitions.declared.table.Shape.TheVariants as shape
+use Rattle.machine.specs.type_definitions.Types.{shape_of, full, is_scalar}
+use Rattle.machine.specs.typed_tree.declared.node.ShortCircuit.{ShortCircuit}
+use Rattle.machine.specs.typed_tree.Trees.{TypedTree, TypedCode, Name, NoMore, More}
+use Rattle.machine.specs.flow_paths.Instructions.{Skip, Fall}
+use Rattle.machine.specs.flow_paths.Objects.{Typing, object_at, designated, is_anonymous}
+use Rattle.machine.specs.flow_paths.Names.{has_call, waiting as waits_in, name_of}
+use Rattle.machine.specs.flow_paths.Acts.{acts_in, stored_acts, source_acts}
+use Rattle.kept_cells.specs.run_values.declared.items.Item.{Item}
+use Rattle.kept_cells.specs.run_values.declared.items.Item.TheVariants as item
+use Rattle.kept_cells.specs.run_values.Items.{next_item}
 use Rattle.machine.specs.Words.{fits_type}
 use Rattle.machine.specs.Words as machine
 use Rattle.machine.specs.Memory.{Memory, Place, cell, freed, slots_of, words_of, declared, undeclared, stored}

@@ -2,10 +2,10 @@
 -- memories that agree. Nothing is asked of programs and states here.
 use Rattle.std.proofs.Common.{◌≡◌, refl, sym, ap, ◌∙◌, subst, inl, inr, ℕ, zero, suc, ◌+◌, Bool, true, false, not, ◌&&◌, ◌==◌, List, [], ◌∷◌, ◌++◌, map, filter, take, drop, length, sum, get_or, if◌then◌else◌}
 use Rattle.std.proofs.lemmas.Bool.{true≢false, false≢true}
-use Rattle.spark_base.specs.declared.position.Pos.{Pos}
-use Rattle.place_names.specs.declared.selector.Sel.{Sel}
-use Rattle.type_definitions.specs.Types.{words, parts}
-use Rattle.flow_paths.specs.Objects.{Typing, object_at}
+use Rattle.machine.specs.spark_base.declared.position.Pos.{Pos}
+use Rattle.machine.specs.place_names.declared.selector.Sel.{Sel}
+use Rattle.machine.specs.type_definitions.Types.{words, parts}
+use Rattle.machine.specs.flow_paths.Objects.{Typing, object_at}
 use Rattle.machine.specs.Words.{Word, Int, Enumerated, Null, Cell, access_offsets, default, offsets}
 use Rattle.machine.specs.Memory.{Slot, Variable, HeapCell, Memory, Base, Place, OfVariable, OfCell, fresh, is_variable, variable_slots, no_cell, cell, slots_at, slots_of, words_of, no_slot, with_variable, at_number, with_cell, put, with_slots, stored, as_gone, gone_at, moved_out, declared, undeclared, without_frame, cell_words, live_cells, live_words, live_count, greatest, with_new_cell, as_freed, freed, given_up}
 use Rattle.machine.specs.Calls.{failed_at, failed, checked_at, checks_at}

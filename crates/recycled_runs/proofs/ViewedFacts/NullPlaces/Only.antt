@@ -1,8 +1,8 @@
 -- Only words that own are ever gone.
 use Rattle.std.proofs.Common.{◌≡◌, refl, sym, ap, ◌∙◌, subst, ◌⊎◌, inl, inr, ℕ, zero, suc, ◌+◌, Bool, true, false, not, cond, ◌&&◌, ◌==◌, eqb-true, List, [], ◌∷◌, ◌++◌, filter, take, drop, length, get_or, arith, if◌then◌else◌}
 use Rattle.std.proofs.lemmas.Bool.{false≢true, true≢false}
-use Rattle.type_definitions.specs.Types.{Table}
-use Rattle.flow_paths.specs.Objects.{Typing, object_at}
+use Rattle.machine.specs.type_definitions.Types.{Table}
+use Rattle.machine.specs.flow_paths.Objects.{Typing, object_at}
 use Rattle.machine.specs.Words.{Word, default}
 use Rattle.machine.specs.Memory.{Slot, Variable, HeapCell, Memory, Base, Place, OfVariable, OfCell, fresh, is_variable, variable_slots, no_cell, slots_at, no_slot, with_variable, at_number, put, stored, declared, undeclared, without_frame, with_new_cell, as_freed, freed}
 use Rattle.soundness.specs.OwnedWays.Ways.{Step, Loc, OfRoot}

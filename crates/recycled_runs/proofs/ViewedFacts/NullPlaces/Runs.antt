@@ -1,8 +1,8 @@
 -- A run with null in moved places gives the same, if the steps of its states do.
 use Rattle.std.proofs.Common.{◌≡◌, refl, sym, ap, ◌∙◌, subst, ℕ, zero, suc, Bool, true, false, List, [], ◌∷◌, nat_le, if◌then◌else◌}
 use Rattle.std.proofs.lemmas.Bool.{true≢false}
-use Rattle.flow_paths.specs.Objects.{Typing, object_at}
-use Rattle.flow_paths.specs.Laid.{FlowProgram, flow_typing}
+use Rattle.machine.specs.flow_paths.Objects.{Typing, object_at}
+use Rattle.machine.specs.flow_paths.Laid.{FlowProgram, flow_typing}
 use Rattle.machine.specs.Words.{default}
 use Rattle.machine.specs.Memory.{Memory, OfVariable, OfCell, Base}
 use Rattle.machine.specs.Evaluate.{StorageError}

@@ -2,23 +2,23 @@
 -- that agree.
 use Rattle.std.proofs.Common.{◌≡◌, refl, sym, ap, ◌∙◌, subst, inl, inr, ℕ, Bool, true, false, not, ◌&&◌, List, [], ◌∷◌, ◌++◌, drop, get_or, ◌+◌, ℤ, ◌-ℤ◌, int_le, unsigned_abs, Option, Some, None, if◌then◌else◌}
 use Rattle.std.proofs.lemmas.Bool.{false≢true}
-use Rattle.spark_base.specs.declared.position.Pos.{Pos}
-use Rattle.place_names.specs.declared.act.Act.TheVariants as act
-use Rattle.place_names.specs.declared.act.Mode.TheVariants as mode
-use Rattle.place_names.specs.declared.act.Placed.{Placed}
-use Rattle.place_names.specs.declared.fact.Fact.{Fact}
-use Rattle.resolved_tree.specs.declared.operator.Operator.{Operator}
-use Rattle.resolved_tree.specs.declared.operator.UnaryOperator.{UnaryOperator}
-use Rattle.type_definitions.specs.declared.table.Static.{Static}
-use Rattle.type_definitions.specs.declared.table.Shape.{Shape}
-use Rattle.type_definitions.specs.declared.table.Shape.TheVariants as shape
-use Rattle.type_definitions.specs.Types.{shape_of, full, is_owning, is_scalar, view_of, owns_of, parts}
-use Rattle.typed_tree.specs.Trees.{TypedTree, Number, Literal, Text, Name, Component as IntoComponent, Designated, Element, Call, EndOfFile, Parens, Image, Unary, Binary, Short, IsNull, Aggregate, Alike, New, NoMore, More}
-use Rattle.typed_tree.specs.Trees as typed
-use Rattle.flow_paths.specs.Objects.{object_at, is_anonymous, view_of as view_of_object, Passing, ByValue}
-use Rattle.flow_paths.specs.Objects as objects
-use Rattle.flow_paths.specs.Names.{has_call, waiting, name_of}
-use Rattle.flow_paths.specs.Acts.{used, acts_in}
+use Rattle.machine.specs.spark_base.declared.position.Pos.{Pos}
+use Rattle.machine.specs.place_names.declared.act.Act.TheVariants as act
+use Rattle.machine.specs.place_names.declared.act.Mode.TheVariants as mode
+use Rattle.machine.specs.place_names.declared.act.Placed.{Placed}
+use Rattle.machine.specs.place_names.declared.fact.Fact.{Fact}
+use Rattle.machine.specs.resolved_tree.declared.operator.Operator.{Operator}
+use Rattle.machine.specs.resolved_tree.declared.operator.UnaryOperator.{UnaryOperator}
+use Rattle.machine.specs.type_definitions.declared.table.Static.{Static}
+use Rattle.machine.specs.type_definitions.declared.table.Shape.{Shape}
+use Rattle.machine.specs.type_definitions.declared.table.Shape.TheVariants as shape
+use Rattle.machine.specs.type_definitions.Types.{shape_of, full, is_owning, is_scalar, view_of, owns_of, parts}
+use Rattle.machine.specs.typed_tree.Trees.{TypedTree, Number, Literal, Text, Name, Component as IntoComponent, Designated, Element, Call, EndOfFile, Parens, Image, Unary, Binary, Short, IsNull, Aggregate, Alike, New, NoMore, More}
+use Rattle.machine.specs.typed_tree.Trees as typed
+use Rattle.machine.specs.flow_paths.Objects.{object_at, is_anonymous, view_of as view_of_object, Passing, ByValue}
+use Rattle.machine.specs.flow_paths.Objects as objects
+use Rattle.machine.specs.flow_paths.Names.{has_call, waiting, name_of}
+use Rattle.machine.specs.flow_paths.Acts.{used, acts_in}
 use Rattle.machine.specs.Words.{component_type, fits_type}
 use Rattle.machine.specs.Words as machine
 use Rattle.machine.specs.Memory.{Memory, Place, slots_of, words_of, moved_out}

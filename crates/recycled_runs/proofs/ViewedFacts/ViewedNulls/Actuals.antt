@@ -1,19 +1,19 @@
 -- The actuals of a call lead to the same in memories that agree: values, scalar places in variables, and
 -- other places in variables, of which nothing is moved.
 use Rattle.std.proofs.Common.{◌≡◌, refl, sym, ap, ◌∙◌, subst, ◌⊎◌, inl, inr, ℕ, Bool, true, false, ◌&&◌, List, [], ◌∷◌, map, arith, length, if◌then◌else◌}
-use Rattle.spark_base.specs.Lists.{Has}
-use Rattle.place_names.specs.declared.act.Mode.{Mode}
-use Rattle.place_names.specs.declared.act.Mode.TheVariants as mode
-use Rattle.place_names.specs.declared.act.Placed.{Placed}
-use Rattle.place_names.specs.declared.fact.Fact.{Fact}
-use Rattle.place_names.specs.Names.{Name as PlaceName}
-use Rattle.place_names.specs.declared.rule.Loan.TheVariants.{Borrowed}
-use Rattle.type_definitions.specs.Types.{Table, shape_of, full, is_scalar, is_owning}
-use Rattle.typed_tree.specs.Trees.{TypedTree, Name, More}
-use Rattle.flow_paths.specs.Objects.{Typing, object_at, is_anonymous, is_named_access, view_of, Passing, ByValue, passing_by}
-use Rattle.flow_paths.specs.Objects as objects
-use Rattle.flow_paths.specs.Names.{selectors, has_call, waiting, written, name_of}
-use Rattle.flow_paths.specs.Acts.{actual_act, actual_acts, actual_values, acts_in, index_acts}
+use Rattle.machine.specs.spark_base.Lists.{Has}
+use Rattle.machine.specs.place_names.declared.act.Mode.{Mode}
+use Rattle.machine.specs.place_names.declared.act.Mode.TheVariants as mode
+use Rattle.machine.specs.place_names.declared.act.Placed.{Placed}
+use Rattle.machine.specs.place_names.declared.fact.Fact.{Fact}
+use Rattle.machine.specs.place_names.Names.{Name as PlaceName}
+use Rattle.machine.specs.place_names.declared.rule.Loan.TheVariants.{Borrowed}
+use Rattle.machine.specs.type_definitions.Types.{Table, shape_of, full, is_scalar, is_owning}
+use Rattle.machine.specs.typed_tree.Trees.{TypedTree, Name, More}
+use Rattle.machine.specs.flow_paths.Objects.{Typing, object_at, is_anonymous, is_named_access, view_of, Passing, ByValue, passing_by}
+use Rattle.machine.specs.flow_paths.Objects as objects
+use Rattle.machine.specs.flow_paths.Names.{selectors, has_call, waiting, written, name_of}
+use Rattle.machine.specs.flow_paths.Acts.{actual_act, actual_acts, actual_values, acts_in, index_acts}
 use Rattle.machine.specs.Words as machine
 use Rattle.machine.specs.Memory.{Memory, Place}
 use Rattle.machine.specs.Evaluate.{Here, Now, Evaluated, Done, followed_by, variable_place, walked, evaluate, Raises, Traps, held_or_taken, AsView, AsValue, viewed, value, checked}
@@ -71,12 +71,12 @@ use Rattle.viewed_steps.proofs.Reading.{index_reads}
 use Rattle.soundness.specs.ViewedSoundness.Holds.{is_given}
 use Rattle.std.proofs.Common.{◌||◌}
 use Rattle.std.proofs.lemmas.Bool.{false≢true, true≢false}
-use Rattle.spark_base.specs.declared.position.Pos.{Pos}
+use Rattle.machine.specs.spark_base.declared.position.Pos.{Pos}
 use Rattle.machine.specs.Memory as memory
 use Rattle.machine.specs.Words.{fits_type}
 use Rattle.soundness.proofs.ViewedSoundness.Outcomes.{named_plain}
 use Rattle.soundness.specs.Ready.{root_of}
-use Rattle.typed_tree.specs.Trees as typed
+use Rattle.machine.specs.typed_tree.Trees as typed
 use Rattle.recycled_runs.proofs.ViewedFacts.Constructors.{is_in_mode}
 
 -- A name that goes through an access value has steps.

@@ -1,16 +1,16 @@
 -- A value that owns nothing, for a formal of mode `in`, is the same in memories that agree.
-use Rattle.flow_paths.specs.Names.{waiting}
+use Rattle.machine.specs.flow_paths.Names.{waiting}
 use Rattle.soundness.proofs.Taking.{Takes}
 use Rattle.std.proofs.Common.{◌≡◌, refl, sym, ap, ◌∙◌, subst, ◌⊎◌, inl, inr, ℕ, suc, ◌+◌, ◌<◌, Bool, true, false, ◌||◌, List, [], ◌∷◌, ◌++◌, drop, get_or, arith, if◌then◌else◌}
-use Rattle.place_names.specs.declared.act.Act.{Act}
-use Rattle.place_names.specs.declared.act.Act.TheVariants as act
-use Rattle.place_names.specs.declared.act.Placed.{Placed}
-use Rattle.place_names.specs.declared.fact.Fact.{Fact}
-use Rattle.place_names.specs.Names.{Name as PlaceName}
-use Rattle.type_definitions.specs.declared.table.Shape.{Shape}
-use Rattle.type_definitions.specs.Types.{shape_of, is_owning}
-use Rattle.typed_tree.specs.Trees.{TypedTree, Call, Parens, Aggregate, Alike, New, NoMore, More}
-use Rattle.flow_paths.specs.Acts.{acts_in}
+use Rattle.machine.specs.place_names.declared.act.Act.{Act}
+use Rattle.machine.specs.place_names.declared.act.Act.TheVariants as act
+use Rattle.machine.specs.place_names.declared.act.Placed.{Placed}
+use Rattle.machine.specs.place_names.declared.fact.Fact.{Fact}
+use Rattle.machine.specs.place_names.Names.{Name as PlaceName}
+use Rattle.machine.specs.type_definitions.declared.table.Shape.{Shape}
+use Rattle.machine.specs.type_definitions.Types.{shape_of, is_owning}
+use Rattle.machine.specs.typed_tree.Trees.{TypedTree, Call, Parens, Aggregate, Alike, New, NoMore, More}
+use Rattle.machine.specs.flow_paths.Acts.{acts_in}
 use Rattle.machine.specs.Words as machine
 use Rattle.machine.specs.Words.{element_type, element_count, fits_type}
 use Rattle.machine.specs.Memory.{Memory}

@@ -1,6 +1,6 @@
 -- Where a name of owners leads, in memories that agree: to the same, if nothing was moved on the way.
 use Rattle.std.proofs.Common.{◌≡◌, refl, sym, subst, ℕ, true, List, [], ◌∷◌}
-use Rattle.flow_paths.specs.Objects.{Typing, designated}
+use Rattle.machine.specs.flow_paths.Objects.{Typing, designated}
 use Rattle.machine.specs.Words.{component_type, element_type}
 use Rattle.machine.specs.Words as machine
 use Rattle.machine.specs.Memory.{Memory, Place, slots_of, words_of}

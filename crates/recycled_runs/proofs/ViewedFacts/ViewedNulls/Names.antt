@@ -1,10 +1,10 @@
 -- A name that may be rooted in a borrower or observer leads to the same place in memories that agree.
 use Rattle.std.proofs.Common.{◌≡◌, refl, sym, ap, ◌∙◌, subst, map, inl, inr, ℕ, Bool, true, false, List, [], ◌∷◌, get_or, arith, if◌then◌else◌, ◌||◌, ◌++◌, not}
 use Rattle.std.proofs.lemmas.Bool.{false≢true}
-use Rattle.place_names.specs.declared.fact.Fact.{Fact}
-use Rattle.type_definitions.specs.declared.table.Shape.TheVariants as shape
-use Rattle.type_definitions.specs.Types.{shape_of, view_of as view_of_shape, is_nil}
-use Rattle.flow_paths.specs.Objects.{Typing, object_at, designated, designated_of, is_anonymous, view_of}
+use Rattle.machine.specs.place_names.declared.fact.Fact.{Fact}
+use Rattle.machine.specs.type_definitions.declared.table.Shape.TheVariants as shape
+use Rattle.machine.specs.type_definitions.Types.{shape_of, view_of as view_of_shape, is_nil}
+use Rattle.machine.specs.flow_paths.Objects.{Typing, object_at, designated, designated_of, is_anonymous, view_of}
 use Rattle.machine.specs.Words as machine
 use Rattle.machine.specs.Memory as memory
 use Rattle.machine.specs.Memory.{Slot, Memory, Place, cell, no_slot, slots_at, slots_of, variable_slots, words_of}

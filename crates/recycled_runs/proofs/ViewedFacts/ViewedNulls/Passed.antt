@@ -3,9 +3,9 @@ use Rattle.soundness.specs.ViewedSoundness.Holds.{is_view}
 use Rattle.viewed_steps.proofs.Left.{cells_same}
 use Rattle.std.proofs.Common.{◌≡◌, refl, sym, ap, ◌∙◌, subst, ◌⊎◌, inl, inr, ℕ, suc, false, List, [], ◌∷◌, ◌++◌, length, Some, true, Bool}
 use Rattle.std.proofs.lemmas.Bool.{false≢true, true≢false}
-use Rattle.place_names.specs.declared.fact.Fact.{Fact}
-use Rattle.spark_base.specs.Lists.{Has}
-use Rattle.flow_paths.specs.Objects.{Typing, object_at}
+use Rattle.machine.specs.place_names.declared.fact.Fact.{Fact}
+use Rattle.machine.specs.spark_base.Lists.{Has}
+use Rattle.machine.specs.flow_paths.Objects.{Typing, object_at}
 use Rattle.machine.specs.Words as machine
 use Rattle.machine.specs.Words.{default}
 use Rattle.machine.specs.Memory.{Memory, Place, words_of, moved_out, stored, declared}

@@ -1,10 +1,10 @@
 -- A run with null in moved places gives the same, in a program with borrowers and observers that is
 -- ready.
 use Rattle.std.proofs.Common.{ℕ, List}
-use Rattle.type_definitions.specs.Types.{Table}
-use Rattle.typed_tree.specs.Programs.{TypedProgram}
-use Rattle.flow_paths.specs.declared.report.Effects.{Effects}
-use Rattle.flow_paths.specs.Laid.{flow_program}
+use Rattle.machine.specs.type_definitions.Types.{Table}
+use Rattle.machine.specs.typed_tree.Programs.{TypedProgram}
+use Rattle.machine.specs.flow_paths.declared.report.Effects.{Effects}
+use Rattle.machine.specs.flow_paths.Laid.{flow_program}
 use Rattle.machine.specs.States.{Outcome, Goes, Ends}
 use Rattle.machine.specs.Run.{step}
 use Rattle.viewed_steps.specs.Sound.{IsSound, LeadsOn}

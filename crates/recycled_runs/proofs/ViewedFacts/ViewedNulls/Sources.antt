@@ -2,18 +2,18 @@
 -- looked at, so it isn't gone.
 use Rattle.std.proofs.Common.{◌≡◌, refl, sym, ap, ◌∙◌, subst, inl, inr, ℕ, Bool, true, false, List, [], ◌∷◌, ◌++◌, length, Some, if◌then◌else◌}
 use Rattle.std.proofs.lemmas.Bool.{false≢true}
-use Rattle.spark_base.specs.declared.position.Pos.{Pos}
-use Rattle.place_names.specs.declared.act.Act.{Act}
-use Rattle.place_names.specs.declared.act.Act.TheVariants as act
-use Rattle.place_names.specs.declared.fact.Fact.{Fact}
-use Rattle.place_names.specs.Names.{Name as PlaceName}
-use Rattle.type_definitions.specs.declared.table.Shape.TheVariants as shape
-use Rattle.type_definitions.specs.Types.{shape_of, full, is_scalar, view_of as view_of_shape}
-use Rattle.typed_tree.specs.Trees.{TypedTree, Name, NoMore, More, Call as CallIn}
-use Rattle.typed_tree.specs.Trees.{Null as TypedNull}
-use Rattle.flow_paths.specs.Objects.{Typing, object_at, is_anonymous, is_borrower, is_borrowing, is_observing, is_observer, is_variable, view_of}
-use Rattle.flow_paths.specs.Names.{waiting as waits_in, name_of, source, written}
-use Rattle.flow_paths.specs.Acts.{acts_in, index_acts, source_acts, stored_acts, declared_acts, assigned_to, observe, reborrow, target_pos as acts_target_pos}
+use Rattle.machine.specs.spark_base.declared.position.Pos.{Pos}
+use Rattle.machine.specs.place_names.declared.act.Act.{Act}
+use Rattle.machine.specs.place_names.declared.act.Act.TheVariants as act
+use Rattle.machine.specs.place_names.declared.fact.Fact.{Fact}
+use Rattle.machine.specs.place_names.Names.{Name as PlaceName}
+use Rattle.machine.specs.type_definitions.declared.table.Shape.TheVariants as shape
+use Rattle.machine.specs.type_definitions.Types.{shape_of, full, is_scalar, view_of as view_of_shape}
+use Rattle.machine.specs.typed_tree.Trees.{TypedTree, Name, NoMore, More, Call as CallIn}
+use Rattle.machine.specs.typed_tree.Trees.{Null as TypedNull}
+use Rattle.machine.specs.flow_paths.Objects.{Typing, object_at, is_anonymous, is_borrower, is_borrowing, is_observing, is_observer, is_variable, view_of}
+use Rattle.machine.specs.flow_paths.Names.{waiting as waits_in, name_of, source, written}
+use Rattle.machine.specs.flow_paths.Acts.{acts_in, index_acts, source_acts, stored_acts, declared_acts, assigned_to, observe, reborrow, target_pos as acts_target_pos}
 use Rattle.machine.specs.Words as machine
 use Rattle.machine.specs.Memory.{Memory}
 use Rattle.machine.specs.Evaluate.{Here, Now, AsView, Evaluated, Done, followed_by, evaluate, value, viewed, checked, steps_of, place_of, held_or_taken, variable_place, walked}

@@ -7,24 +7,24 @@ use Rattle.soundness.proofs.ViewedSoundness.ViewKinds.{plain_named}
 use Rattle.viewed_steps.specs.Awaited.{temporaries_of, TakesPassed, AreAwaited, awaited, lasting_of, TakesScalars}
 use Rattle.soundness.specs.OwnedWays.Ways.{after}
 use Rattle.soundness.proofs.ViewedSoundness.Evaluated.{gives_plainly}
-use Rattle.spark_base.specs.Lists.{Has}
-use Rattle.place_names.specs.declared.act.Act.{Act}
-use Rattle.place_names.specs.declared.act.Act.TheVariants as act
-use Rattle.place_names.specs.declared.fact.Fact.{Fact}
-use Rattle.type_definitions.specs.Types.{Table, full}
-use Rattle.typed_tree.specs.Trees.{TypedTree, Name, NoMore, More}
-use Rattle.typed_tree.specs.Programs.{TypedProgram}
-use Rattle.flow_paths.specs.declared.report.Effects.{Effects}
-use Rattle.flow_paths.specs.Instructions.{Instruction, Declare, Call, Hold, EndScope, Finish}
-use Rattle.flow_paths.specs.Objects.{Typing, sub_at, passings, is_anonymous, object_at}
-use Rattle.flow_paths.specs.Names.{has_call, waiting as waits_in, name_of}
-use Rattle.flow_paths.specs.Acts as flow
-use Rattle.flow_paths.specs.Acts.{acts_in}
-use Rattle.flow_paths.specs.Points.{NamedPoint}
-use Rattle.flow_paths.specs.Scopes.{taken}
-use Rattle.flow_paths.specs.Laid.{FlowSub, FlowProgram, NamedSub, flow_sub, typing_of, flow_typing, flow_program, flow_named}
-use Rattle.flow_paths.specs.Paths.{ControlPath}
-use Rattle.flow_paths.specs.Effects.{path_points}
+use Rattle.machine.specs.spark_base.Lists.{Has}
+use Rattle.machine.specs.place_names.declared.act.Act.{Act}
+use Rattle.machine.specs.place_names.declared.act.Act.TheVariants as act
+use Rattle.machine.specs.place_names.declared.fact.Fact.{Fact}
+use Rattle.machine.specs.type_definitions.Types.{Table, full}
+use Rattle.machine.specs.typed_tree.Trees.{TypedTree, Name, NoMore, More}
+use Rattle.machine.specs.typed_tree.Programs.{TypedProgram}
+use Rattle.machine.specs.flow_paths.declared.report.Effects.{Effects}
+use Rattle.machine.specs.flow_paths.Instructions.{Instruction, Declare, Call, Hold, EndScope, Finish}
+use Rattle.machine.specs.flow_paths.Objects.{Typing, sub_at, passings, is_anonymous, object_at}
+use Rattle.machine.specs.flow_paths.Names.{has_call, waiting as waits_in, name_of}
+use Rattle.machine.specs.flow_paths.Acts as flow
+use Rattle.machine.specs.flow_paths.Acts.{acts_in}
+use Rattle.machine.specs.flow_paths.Points.{NamedPoint}
+use Rattle.machine.specs.flow_paths.Scopes.{taken}
+use Rattle.machine.specs.flow_paths.Laid.{FlowSub, FlowProgram, NamedSub, flow_sub, typing_of, flow_typing, flow_program, flow_named}
+use Rattle.machine.specs.flow_paths.Paths.{ControlPath}
+use Rattle.machine.specs.flow_paths.Effects.{path_points}
 use Rattle.machine.specs.Memory.{Memory}
 use Rattle.machine.specs.Calls.{Passed, all_passed}
 use Rattle.machine.specs.States.{Waiting, Frame, State, sub_of}
@@ -57,16 +57,16 @@ use Rattle.viewed_steps.proofs.Followed.{IsTraversing}
 use Rattle.viewed_steps.specs.Ready.{IsTraversalCall}
 use Rattle.viewed_steps.proofs.Traversing.{first_actual}
 use Rattle.viewed_steps.proofs.Called.{passes_to}
-use Rattle.flow_paths.specs.Views.{traversed_formal}
-use Rattle.flow_paths.specs.Objects.{Passing, passing, traverses}
+use Rattle.machine.specs.flow_paths.Views.{traversed_formal}
+use Rattle.machine.specs.flow_paths.Objects.{Passing, passing, traverses}
 use Rattle.soundness.proofs.Points.{flow_at}
 use Rattle.std.proofs.Common.{map}
 use Rattle.std.proofs.lemmas.Bool.{false≢true, true≢false}
 use Rattle.viewed_steps.proofs.CallBegins as call_begins
 use Rattle.viewed_steps.proofs.Passed.{apart_or}
-use Rattle.place_names.specs.Reports.{Report}
-use Rattle.flow_paths.specs.Aliases as alias
-use Rattle.flow_paths.specs.Aliases.{overlap_reports}
+use Rattle.machine.specs.place_names.Reports.{Report}
+use Rattle.machine.specs.flow_paths.Aliases as alias
+use Rattle.machine.specs.flow_paths.Aliases.{overlap_reports}
 use Rattle.viewed_steps.proofs.CallEnds as ends
 use Rattle.recycled_runs.specs.ViewedFacts.NullPlaces.Agrees.{Agrees}
 use Rattle.recycled_runs.specs.ViewedFacts.NullPlaces.Compares.{Compares, ComparesIn, AreCompared}
@@ -83,7 +83,7 @@ use Rattle.recycled_runs.proofs.ViewedFacts.ViewedNulls.Instructions as own_inst
 use Rattle.recycled_runs.proofs.ViewedFacts.ViewedNulls.Taken as taken_values
 use Rattle.viewed_steps.proofs.Views.{AreAccess, all_held}
 use Rattle.viewed_steps.proofs.Shown.{same_cells}
-use Rattle.place_names.specs.declared.act.Mode.TheVariants as mode
+use Rattle.machine.specs.place_names.declared.act.Mode.TheVariants as mode
 use Rattle.recycled_runs.proofs.ViewedFacts.ViewedNulls.Sources.{call_taken, null_taken, taken_same}
 use Rattle.soundness.proofs.OwnedLoans.Allowed.{give_clears}
 use Rattle.soundness.proofs.Contents.{bool_cases}

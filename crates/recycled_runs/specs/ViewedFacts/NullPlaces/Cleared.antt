@@ -3,7 +3,7 @@
 -- A heap that uses cells again can't know what is gone. So no step may look at a word that is gone:
 -- then the run is the same with null in its place.
 use Rattle.std.specs.Prelude.{◌≡◌, ℕ, zero, suc, List, [], ◌∷◌, map, nat_le, if◌then◌else◌}
-use Rattle.flow_paths.specs.Laid.{FlowProgram}
+use Rattle.machine.specs.flow_paths.Laid.{FlowProgram}
 use Rattle.machine.specs.Memory.{Slot, Variable, HeapCell, Memory, no_slot}
 use Rattle.machine.specs.Evaluate.{StorageError}
 use Rattle.machine.specs.States.{State, Raised, Spent, Outcome, Goes, Ends, sub_of, frame_words, stack_words, frame_at_start}

@@ -1,14 +1,14 @@
 -- What is compared with null is an access value. (Typing asks for it; soundness needn't know it.)
 use Rattle.std.specs.Prelude.{◌≡◌, ℕ, Bool}
-use Rattle.spark_base.specs.Lists.{Has}
-use Rattle.type_definitions.specs.declared.table.Shape.TheVariants as shape
-use Rattle.type_definitions.specs.Types.{shape_of}
-use Rattle.typed_tree.specs.Trees.{TypedTree, Name, Component as IntoComponent, Designated, Element, Parens, Image, Unary, Binary, Short, IsNull, Aggregate, Alike, New, More}
-use Rattle.flow_paths.specs.Instructions.{Instruction, Declare, Assign, Output, Input, Release, Test, Choose, Start, Evaluate, LeaveLoop, Hold}
-use Rattle.flow_paths.specs.Instructions as instruction
-use Rattle.flow_paths.specs.Objects.{Typing}
-use Rattle.flow_paths.specs.Points.{FlowPoint}
-use Rattle.flow_paths.specs.Laid.{FlowSub, FlowProgram, flow_typing}
+use Rattle.machine.specs.spark_base.Lists.{Has}
+use Rattle.machine.specs.type_definitions.declared.table.Shape.TheVariants as shape
+use Rattle.machine.specs.type_definitions.Types.{shape_of}
+use Rattle.machine.specs.typed_tree.Trees.{TypedTree, Name, Component as IntoComponent, Designated, Element, Parens, Image, Unary, Binary, Short, IsNull, Aggregate, Alike, New, More}
+use Rattle.machine.specs.flow_paths.Instructions.{Instruction, Declare, Assign, Output, Input, Release, Test, Choose, Start, Evaluate, LeaveLoop, Hold}
+use Rattle.machine.specs.flow_paths.Instructions as instruction
+use Rattle.machine.specs.flow_paths.Objects.{Typing}
+use Rattle.machine.specs.flow_paths.Points.{FlowPoint}
+use Rattle.machine.specs.flow_paths.Laid.{FlowSub, FlowProgram, flow_typing}
 
 -- A call in an expression has its actuals at a point of its own.
 unfoldable pub Compares : Typing → TypedTree → Type 0

@@ -1,21 +1,21 @@
 -- What an expression means doesn't depend on whether a loop stands around it, nor on whether it is
 -- the initial value of a package object: only which sentences it breaks does.
 use Rattle.std.proofs.Common.{◌≡◌, refl, ap, ◌∙◌, ℕ, ◌+◌, Bool, ◌∷◌, negsuc, if◌then◌else◌}
-use Rattle.resolved_tree.specs.Trees.{Tree, Number, Text, Null, Named, Parens, Unary, Binary, Aggregate, Others, New, Selected, All, Applied, Attr, Argument, NoMore, More, position}
-use Rattle.type_definitions.specs.declared.table.Entry.{Entry}
-use Rattle.type_definitions.specs.declared.table.Entry.TheVariants as entry
-use Rattle.type_definitions.specs.declared.judgement.Next.{Next}
-use Rattle.type_definitions.specs.declared.judgement.Next.TheVariants.{Goes, Gives, Stops}
-use Rattle.type_definitions.specs.declared.judgement.Role.{Role}
-use Rattle.type_definitions.specs.declared.judgement.Role.TheVariants as role
-use Rattle.type_definitions.specs.Entries.{entry_of, integer, marked}
-use Rattle.type_definitions.specs.Statics.{is_alone}
-use Rattle.type_definitions.specs.Names.{Context, seen, step, through, reading_of, along, led_on, of_entry, of_type}
-use Rattle.type_definitions.specs.Expressions.{Given, own_of, own_type, role_type, operand_type, unary_type, element_type, is_null, next_type}
-use Rattle.typed_tree.specs.Trees.{TypedTree, typed_list}
-use Rattle.typed_tree.specs.Trees as typed
-use Rattle.typed_tree.specs.Expressions.{Site, designating, element, object_type, typed_name, operands, arguments_given, called_function, typed_expression, typed_steps, typed_step, typed_actuals, typed_imaged, typed_first, typed_values}
-use Rattle.flow_paths.specs.Objects.{Typing}
+use Rattle.machine.specs.resolved_tree.Trees.{Tree, Number, Text, Null, Named, Parens, Unary, Binary, Aggregate, Others, New, Selected, All, Applied, Attr, Argument, NoMore, More, position}
+use Rattle.machine.specs.type_definitions.declared.table.Entry.{Entry}
+use Rattle.machine.specs.type_definitions.declared.table.Entry.TheVariants as entry
+use Rattle.machine.specs.type_definitions.declared.judgement.Next.{Next}
+use Rattle.machine.specs.type_definitions.declared.judgement.Next.TheVariants.{Goes, Gives, Stops}
+use Rattle.machine.specs.type_definitions.declared.judgement.Role.{Role}
+use Rattle.machine.specs.type_definitions.declared.judgement.Role.TheVariants as role
+use Rattle.machine.specs.type_definitions.Entries.{entry_of, integer, marked}
+use Rattle.machine.specs.type_definitions.Statics.{is_alone}
+use Rattle.machine.specs.type_definitions.Names.{Context, seen, step, through, reading_of, along, led_on, of_entry, of_type}
+use Rattle.machine.specs.type_definitions.Expressions.{Given, own_of, own_type, role_type, operand_type, unary_type, element_type, is_null, next_type}
+use Rattle.machine.specs.typed_tree.Trees.{TypedTree, typed_list}
+use Rattle.machine.specs.typed_tree.Trees as typed
+use Rattle.machine.specs.typed_tree.Expressions.{Site, designating, element, object_type, typed_name, operands, arguments_given, called_function, typed_expression, typed_steps, typed_step, typed_actuals, typed_imaged, typed_first, typed_values}
+use Rattle.machine.specs.flow_paths.Objects.{Typing}
 use Rattle.soundness.specs.TypedLaws.Fine.{IsMeant, AreSuffixes, IsSuffix, AreArguments}
 
 abbrev pub flagged : Bool → Bool → Context → Context

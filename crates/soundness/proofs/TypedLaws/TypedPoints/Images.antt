@@ -1,25 +1,25 @@
 -- Names that are read as images: those of an attribute of a scalar type, with one argument.
 use Rattle.std.proofs.Common.{◌≡◌, refl, sym, ap, ℕ, Bool, true, false, ℤ, pos, Option, Some, None, if◌then◌else◌}
 use Rattle.std.proofs.lemmas.Bool.{false≢true}
-use Rattle.resolved_tree.specs.declared.operator.Attribute.{Attribute}
-use Rattle.resolved_tree.specs.declared.operator.Attribute.TheVariants as attribute
-use Rattle.resolved_tree.specs.declared.operator.Operator.{Operator}
-use Rattle.resolved_tree.specs.declared.operator.Operator.TheVariants as operator
-use Rattle.resolved_tree.specs.Trees.{Tree, Applied, Attr, NoMore, More}
-use Rattle.type_definitions.specs.declared.table.Entry.{Entry}
-use Rattle.type_definitions.specs.declared.table.Entry.TheVariants as entry
-use Rattle.type_definitions.specs.declared.table.Predefined.TheVariants as predefined
-use Rattle.type_definitions.specs.declared.judgement.View.{View}
-use Rattle.type_definitions.specs.declared.judgement.View.TheVariants as view
-use Rattle.type_definitions.specs.declared.judgement.Next.{Next}
-use Rattle.type_definitions.specs.declared.judgement.Next.TheVariants.{Goes, Gives, Stops}
-use Rattle.type_definitions.specs.declared.judgement.Own.TheVariants as own
-use Rattle.type_definitions.specs.declared.judgement.Reading.{Reading}
-use Rattle.type_definitions.specs.declared.judgement.Reading.TheVariants as reading
-use Rattle.type_definitions.specs.Types.{base, is_scalar}
-use Rattle.type_definitions.specs.Entries.{entry_of, integer, boolean}
-use Rattle.type_definitions.specs.Names.{Context, seen, step, along, led_on, ended, is_end, is_index, is_imaged, is_call, reading_if, of_entry, of_function, ended_at, array_attribute, scalar_attribute, type_attribute, reading_of}
-use Rattle.type_definitions.specs.Expressions.{is_string, is_join, is_arithmetic}
+use Rattle.machine.specs.resolved_tree.declared.operator.Attribute.{Attribute}
+use Rattle.machine.specs.resolved_tree.declared.operator.Attribute.TheVariants as attribute
+use Rattle.machine.specs.resolved_tree.declared.operator.Operator.{Operator}
+use Rattle.machine.specs.resolved_tree.declared.operator.Operator.TheVariants as operator
+use Rattle.machine.specs.resolved_tree.Trees.{Tree, Applied, Attr, NoMore, More}
+use Rattle.machine.specs.type_definitions.declared.table.Entry.{Entry}
+use Rattle.machine.specs.type_definitions.declared.table.Entry.TheVariants as entry
+use Rattle.machine.specs.type_definitions.declared.table.Predefined.TheVariants as predefined
+use Rattle.machine.specs.type_definitions.declared.judgement.View.{View}
+use Rattle.machine.specs.type_definitions.declared.judgement.View.TheVariants as view
+use Rattle.machine.specs.type_definitions.declared.judgement.Next.{Next}
+use Rattle.machine.specs.type_definitions.declared.judgement.Next.TheVariants.{Goes, Gives, Stops}
+use Rattle.machine.specs.type_definitions.declared.judgement.Own.TheVariants as own
+use Rattle.machine.specs.type_definitions.declared.judgement.Reading.{Reading}
+use Rattle.machine.specs.type_definitions.declared.judgement.Reading.TheVariants as reading
+use Rattle.machine.specs.type_definitions.Types.{base, is_scalar}
+use Rattle.machine.specs.type_definitions.Entries.{entry_of, integer, boolean}
+use Rattle.machine.specs.type_definitions.Names.{Context, seen, step, along, led_on, ended, is_end, is_index, is_imaged, is_call, reading_if, of_entry, of_function, ended_at, array_attribute, scalar_attribute, type_attribute, reading_of}
+use Rattle.machine.specs.type_definitions.Expressions.{is_string, is_join, is_arithmetic}
 
 abbrev is_image : Reading → Bool
 is_image (reading.Image t) = true

@@ -1,17 +1,17 @@
 -- The points of a program whose code is as soundness needs it are so.
 use Rattle.std.proofs.Common.{◌≡◌, refl, sym, ap, subst, inl, inr, ℕ, ◌+◌, true, List, [], ◌∷◌, map, length, Option}
 use Rattle.std.specs.List.{AllByRecursion}
-use Rattle.spark_base.specs.Lists.{Has}
+use Rattle.machine.specs.spark_base.Lists.{Has}
 use Rattle.spark_base.proofs.Lists.{Has-map_from}
-use Rattle.type_definitions.specs.Types.{Table}
-use Rattle.typed_tree.specs.declared.node.ShortCircuit.{ShortCircuit}
-use Rattle.typed_tree.specs.Trees.{TypedTree}
-use Rattle.typed_tree.specs.Programs.{TypedSub, TypedProgram}
-use Rattle.flow_paths.specs.Instructions.{Instruction, Evaluate}
-use Rattle.flow_paths.specs.Objects.{Typing, Signature}
-use Rattle.flow_paths.specs.Points.{FlowPoint, flow_point}
-use Rattle.flow_paths.specs.Prep.{Setting}
-use Rattle.flow_paths.specs.Laid.{Temporary, NamedSub, FlowSub, signature, typing_of, flow_typing, named_subs, sub_temporaries, numbers_from, unnumbered, all_named, frame_of, kept_roots, sub_facts, number_in, flow_sub, flow_named, flow_program}
+use Rattle.machine.specs.type_definitions.Types.{Table}
+use Rattle.machine.specs.typed_tree.declared.node.ShortCircuit.{ShortCircuit}
+use Rattle.machine.specs.typed_tree.Trees.{TypedTree}
+use Rattle.machine.specs.typed_tree.Programs.{TypedSub, TypedProgram}
+use Rattle.machine.specs.flow_paths.Instructions.{Instruction, Evaluate}
+use Rattle.machine.specs.flow_paths.Objects.{Typing, Signature}
+use Rattle.machine.specs.flow_paths.Points.{FlowPoint, flow_point}
+use Rattle.machine.specs.flow_paths.Prep.{Setting}
+use Rattle.machine.specs.flow_paths.Laid.{Temporary, NamedSub, FlowSub, signature, typing_of, flow_typing, named_subs, sub_temporaries, numbers_from, unnumbered, all_named, frame_of, kept_roots, sub_facts, number_in, flow_sub, flow_named, flow_program}
 use Rattle.soundness.specs.TypedLaws.Needed.{Stays, IsFine, AreFine}
 use Rattle.soundness.specs.TypedLaws.TypedPoints.Code.{IsFineCode, IsFinePoint, is_whole, AreEvaluated}
 use Rattle.soundness.proofs.TypedLaws.TypedPoints.Points.{sub_fine, elaboration_fine}

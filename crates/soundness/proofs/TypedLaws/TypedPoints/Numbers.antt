@@ -4,22 +4,22 @@ use Rattle.std.proofs.Common.{◌≡◌, refl, sym, ap, ◌∙◌, subst, inl, i
 use Rattle.std.specs.Prelude.{flat_map}
 use Rattle.std.specs.List.{AllByRecursion, position_or_len}
 use Rattle.std.proofs.lemmas.Bool.{eqb-true, eq-eqb}
-use Rattle.spark_base.specs.Lists.{Has}
-use Rattle.place_names.specs.declared.act.Mode.{Mode}
-use Rattle.place_names.specs.declared.act.Mode.TheVariants as mode
-use Rattle.resolved_tree.specs.Trees.{More, Code, Objects, Numbers, Formals, SubBody, Package, PackageBody, If, Branch, Case, When, Loop, While, For, Block, code_items}
-use Rattle.type_definitions.specs.declared.table.Known.{Known}
-use Rattle.type_definitions.specs.declared.table.ObjectInfo.{ObjectInfo}
-use Rattle.type_definitions.specs.declared.table.Entry.TheVariants as entry
-use Rattle.type_definitions.specs.Entries.{entry_of}
-use Rattle.type_definitions.specs.Expressions.{profile_of}
-use Rattle.type_definitions.specs.Gathered.{declared_number, declared_text, in_hidden}
-use Rattle.typed_tree.specs.declared.object.Object.{Object}
-use Rattle.typed_tree.specs.Expressions.{Site, object_number, sub_number, object_type}
-use Rattle.typed_tree.specs.Statements.{scope_count}
-use Rattle.typed_tree.specs.Programs.{TypedSub, DeclaredObject, Home, over_units, object_of, formals_of, front_formals, local, in_package, package_text, objects_in, program_objects, text_io, bodies_in, site_of, placed, subs_in, elaboration, typed_program}
-use Rattle.flow_paths.specs.Objects.{Signature, object_at, sub_at}
-use Rattle.flow_paths.specs.Laid.{signature}
+use Rattle.machine.specs.spark_base.Lists.{Has}
+use Rattle.machine.specs.place_names.declared.act.Mode.{Mode}
+use Rattle.machine.specs.place_names.declared.act.Mode.TheVariants as mode
+use Rattle.machine.specs.resolved_tree.Trees.{More, Code, Objects, Numbers, Formals, SubBody, Package, PackageBody, If, Branch, Case, When, Loop, While, For, Block, code_items}
+use Rattle.machine.specs.type_definitions.declared.table.Known.{Known}
+use Rattle.machine.specs.type_definitions.declared.table.ObjectInfo.{ObjectInfo}
+use Rattle.machine.specs.type_definitions.declared.table.Entry.TheVariants as entry
+use Rattle.machine.specs.type_definitions.Entries.{entry_of}
+use Rattle.machine.specs.type_definitions.Expressions.{profile_of}
+use Rattle.machine.specs.type_definitions.Gathered.{declared_number, declared_text, in_hidden}
+use Rattle.machine.specs.typed_tree.declared.object.Object.{Object}
+use Rattle.machine.specs.typed_tree.Expressions.{Site, object_number, sub_number, object_type}
+use Rattle.machine.specs.typed_tree.Statements.{scope_count}
+use Rattle.machine.specs.typed_tree.Programs.{TypedSub, DeclaredObject, Home, over_units, object_of, formals_of, front_formals, local, in_package, package_text, objects_in, program_objects, text_io, bodies_in, site_of, placed, subs_in, elaboration, typed_program}
+use Rattle.machine.specs.flow_paths.Objects.{Signature, object_at, sub_at}
+use Rattle.machine.specs.flow_paths.Laid.{signature}
 use Rattle.soundness.specs.TypedLaws.Fine.{Denotes}
 use Rattle.soundness.specs.TypedLaws.TypedPoints.Meant.{typing_meant}
 

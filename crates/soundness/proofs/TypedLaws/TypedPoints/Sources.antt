@@ -1,33 +1,33 @@
 -- Sources of assignments, of objects and of results, those of anonymous access types among them.
 use Rattle.std.proofs.Common.{◌≡◌, refl, sym, ap, ◌∙◌, subst, inl, ℕ, Bool, true, false, not, ◌&&◌, List, [], ◌++◌, nat_eq, ℤ, negsuc, if◌then◌else◌}
 use Rattle.std.proofs.lemmas.Bool.{false≢true, true≢false}
-use Rattle.spark_base.specs.declared.position.Pos.{Pos}
-use Rattle.resolved_tree.specs.declared.operator.Operator.{Operator}
-use Rattle.resolved_tree.specs.declared.operator.Operator.TheVariants as operator
-use Rattle.resolved_tree.specs.Trees.{Tree, Null, Named, Unary, Binary, position}
-use Rattle.type_definitions.specs.declared.table.Entry.{Entry}
-use Rattle.type_definitions.specs.declared.table.Shape.{Shape}
-use Rattle.type_definitions.specs.declared.table.Shape.TheVariants as shape
-use Rattle.type_definitions.specs.declared.judgement.View.{View}
-use Rattle.type_definitions.specs.declared.judgement.View.TheVariants as view
-use Rattle.type_definitions.specs.declared.judgement.Reading.{Reading}
-use Rattle.type_definitions.specs.declared.judgement.Reading.TheVariants as reading
-use Rattle.type_definitions.specs.declared.judgement.Where.TheVariants as stands
-use Rattle.type_definitions.specs.Types.{Table, full, shape_of, view_of}
-use Rattle.type_definitions.specs.Entries.{entry_of, integer}
-use Rattle.type_definitions.specs.Faults.{demand, K2}
-use Rattle.type_definitions.specs.Statics.{is_alone}
-use Rattle.type_definitions.specs.Gathered.{natural_of}
-use Rattle.type_definitions.specs.Names.{Context, reading_of, is_end}
-use Rattle.type_definitions.specs.Expressions.{own_of, own_type, inside, reading_faults, given_names, call_arguments, is_anonymous, is_variable, is_null, behind, way_of, unary_type, faults}
-use Rattle.type_definitions.specs.Statements.{source_faults, source_name, source_fits, formal_source, return_source, designates, is_name, is_formal, is_object_entry, target_faults, assign_faults, target_reading}
-use Rattle.typed_tree.specs.Trees.{TypedTree, Name}
-use Rattle.typed_tree.specs.Trees as typed
-use Rattle.typed_tree.specs.declared.object.Object.{Object}
-use Rattle.typed_tree.specs.Expressions.{Site, typed_expression, typed_name, operands, value_of_type, number, object_type, typed_steps, typed_actuals, typed_imaged, called_function}
-use Rattle.typed_tree.specs.Statements.{type_read}
-use Rattle.flow_paths.specs.Objects.{Typing, Signature, object_at}
-use Rattle.flow_paths.specs.Objects as flow
+use Rattle.machine.specs.spark_base.declared.position.Pos.{Pos}
+use Rattle.machine.specs.resolved_tree.declared.operator.Operator.{Operator}
+use Rattle.machine.specs.resolved_tree.declared.operator.Operator.TheVariants as operator
+use Rattle.machine.specs.resolved_tree.Trees.{Tree, Null, Named, Unary, Binary, position}
+use Rattle.machine.specs.type_definitions.declared.table.Entry.{Entry}
+use Rattle.machine.specs.type_definitions.declared.table.Shape.{Shape}
+use Rattle.machine.specs.type_definitions.declared.table.Shape.TheVariants as shape
+use Rattle.machine.specs.type_definitions.declared.judgement.View.{View}
+use Rattle.machine.specs.type_definitions.declared.judgement.View.TheVariants as view
+use Rattle.machine.specs.type_definitions.declared.judgement.Reading.{Reading}
+use Rattle.machine.specs.type_definitions.declared.judgement.Reading.TheVariants as reading
+use Rattle.machine.specs.type_definitions.declared.judgement.Where.TheVariants as stands
+use Rattle.machine.specs.type_definitions.Types.{Table, full, shape_of, view_of}
+use Rattle.machine.specs.type_definitions.Entries.{entry_of, integer}
+use Rattle.machine.specs.type_definitions.Faults.{demand, K2}
+use Rattle.machine.specs.type_definitions.Statics.{is_alone}
+use Rattle.machine.specs.type_definitions.Gathered.{natural_of}
+use Rattle.machine.specs.type_definitions.Names.{Context, reading_of, is_end}
+use Rattle.machine.specs.type_definitions.Expressions.{own_of, own_type, inside, reading_faults, given_names, call_arguments, is_anonymous, is_variable, is_null, behind, way_of, unary_type, faults}
+use Rattle.machine.specs.type_definitions.Statements.{source_faults, source_name, source_fits, formal_source, return_source, designates, is_name, is_formal, is_object_entry, target_faults, assign_faults, target_reading}
+use Rattle.machine.specs.typed_tree.Trees.{TypedTree, Name}
+use Rattle.machine.specs.typed_tree.Trees as typed
+use Rattle.machine.specs.typed_tree.declared.object.Object.{Object}
+use Rattle.machine.specs.typed_tree.Expressions.{Site, typed_expression, typed_name, operands, value_of_type, number, object_type, typed_steps, typed_actuals, typed_imaged, called_function}
+use Rattle.machine.specs.typed_tree.Statements.{type_read}
+use Rattle.machine.specs.flow_paths.Objects.{Typing, Signature, object_at}
+use Rattle.machine.specs.flow_paths.Objects as flow
 use Rattle.soundness.specs.TypedLaws.Fine.{Laws, IsMeant}
 use Rattle.soundness.specs.TypedLaws.Fine as fine
 use Rattle.soundness.specs.TypedLaws.Needed.{IsPlace, IsView, Source}

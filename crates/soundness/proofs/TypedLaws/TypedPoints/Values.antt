@@ -1,23 +1,23 @@
 -- Expressions at their places in statements.
 use Rattle.std.proofs.Common.{◌≡◌, refl, ap, subst, inl, inr, ℕ, ℤ, Bool, true, false, ◌||◌, List, [], if◌then◌else◌, sym, ◌∙◌}
 use Rattle.std.proofs.lemmas.Bool.{false≢true}
-use Rattle.resolved_tree.specs.Trees.{Tree, Number, Text, Null, Named, Parens, Unary, Binary, Aggregate, Others, New, NoMore, More}
-use Rattle.type_definitions.specs.declared.table.Shape.{Shape}
-use Rattle.type_definitions.specs.declared.table.Shape.TheVariants as shape
-use Rattle.type_definitions.specs.declared.judgement.Own.{Own}
-use Rattle.type_definitions.specs.declared.judgement.Own.TheVariants as own
-use Rattle.type_definitions.specs.declared.judgement.Where.{Where}
-use Rattle.type_definitions.specs.declared.judgement.Where.TheVariants as stands
-use Rattle.type_definitions.specs.Types.{Table, full, shape_of, view_of, is_untyped, is_scalar}
-use Rattle.type_definitions.specs.Entries.{integer, boolean}
-use Rattle.type_definitions.specs.Names.{Context, seen, reading_of}
-use Rattle.type_definitions.specs.Expressions.{own_type, around, inside, faults, scalar_own, is_join, is_arithmetic, is_demanding}
-use Rattle.type_definitions.specs.Statements.{condition}
-use Rattle.typed_tree.specs.Trees.{TypedTree}
-use Rattle.typed_tree.specs.Trees as typed
-use Rattle.typed_tree.specs.declared.object.Object.{Object}
-use Rattle.typed_tree.specs.Expressions.{Site, typed_expression, typed_optional}
-use Rattle.flow_paths.specs.Objects.{Typing, Signature}
+use Rattle.machine.specs.resolved_tree.Trees.{Tree, Number, Text, Null, Named, Parens, Unary, Binary, Aggregate, Others, New, NoMore, More}
+use Rattle.machine.specs.type_definitions.declared.table.Shape.{Shape}
+use Rattle.machine.specs.type_definitions.declared.table.Shape.TheVariants as shape
+use Rattle.machine.specs.type_definitions.declared.judgement.Own.{Own}
+use Rattle.machine.specs.type_definitions.declared.judgement.Own.TheVariants as own
+use Rattle.machine.specs.type_definitions.declared.judgement.Where.{Where}
+use Rattle.machine.specs.type_definitions.declared.judgement.Where.TheVariants as stands
+use Rattle.machine.specs.type_definitions.Types.{Table, full, shape_of, view_of, is_untyped, is_scalar}
+use Rattle.machine.specs.type_definitions.Entries.{integer, boolean}
+use Rattle.machine.specs.type_definitions.Names.{Context, seen, reading_of}
+use Rattle.machine.specs.type_definitions.Expressions.{own_type, around, inside, faults, scalar_own, is_join, is_arithmetic, is_demanding}
+use Rattle.machine.specs.type_definitions.Statements.{condition}
+use Rattle.machine.specs.typed_tree.Trees.{TypedTree}
+use Rattle.machine.specs.typed_tree.Trees as typed
+use Rattle.machine.specs.typed_tree.declared.object.Object.{Object}
+use Rattle.machine.specs.typed_tree.Expressions.{Site, typed_expression, typed_optional}
+use Rattle.machine.specs.flow_paths.Objects.{Typing, Signature}
 use Rattle.machine.specs.Typed.{is_record, is_array}
 use Rattle.soundness.specs.TypedLaws.Fine.{Has, Laws, IsMeant}
 use Rattle.soundness.specs.TypedLaws.Needed.{Gives, Stays, FirstStays, Source}

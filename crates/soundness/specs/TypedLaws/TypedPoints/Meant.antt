@@ -1,17 +1,17 @@
 -- What is asked of code beside that it breaks no sentence: it is code of the grammar, and its
 -- identifiers denote what the program declares.
 use Rattle.std.specs.Prelude.{◌≡◌, ℕ, false, List}
-use Rattle.spark_base.specs.Lists.{Has}
-use Rattle.resolved_tree.specs.Trees.{Tree, NoMore, More, Code, Anonymous, Bounds, Marked, Constrained, RangeOf, Objects, Numbers, Assign, Call, Exit, Return, If, Branch, Case, When, Loop, While, For, Block, SubBody, Package, PackageBody}
-use Rattle.type_definitions.specs.declared.table.Known.{Known}
-use Rattle.type_definitions.specs.declared.table.Shape.TheVariants as shape
-use Rattle.type_definitions.specs.Types.{shape_of}
-use Rattle.type_definitions.specs.Entries.{integer}
-use Rattle.type_definitions.specs.Gathered.{indicated, parameter_type, declared_number, in_subprogram, in_visible, in_hidden}
-use Rattle.typed_tree.specs.Expressions.{Site, object_number}
-use Rattle.typed_tree.specs.Programs.{placed, site_of, typed_program}
-use Rattle.flow_paths.specs.Laid.{typing_of}
-use Rattle.flow_paths.specs.Objects.{Typing, object_at}
+use Rattle.machine.specs.spark_base.Lists.{Has}
+use Rattle.machine.specs.resolved_tree.Trees.{Tree, NoMore, More, Code, Anonymous, Bounds, Marked, Constrained, RangeOf, Objects, Numbers, Assign, Call, Exit, Return, If, Branch, Case, When, Loop, While, For, Block, SubBody, Package, PackageBody}
+use Rattle.machine.specs.type_definitions.declared.table.Known.{Known}
+use Rattle.machine.specs.type_definitions.declared.table.Shape.TheVariants as shape
+use Rattle.machine.specs.type_definitions.Types.{shape_of}
+use Rattle.machine.specs.type_definitions.Entries.{integer}
+use Rattle.machine.specs.type_definitions.Gathered.{indicated, parameter_type, declared_number, in_subprogram, in_visible, in_hidden}
+use Rattle.machine.specs.typed_tree.Expressions.{Site, object_number}
+use Rattle.machine.specs.typed_tree.Programs.{placed, site_of, typed_program}
+use Rattle.machine.specs.flow_paths.Laid.{typing_of}
+use Rattle.machine.specs.flow_paths.Objects.{Typing, object_at}
 use Rattle.soundness.specs.TypedLaws.Fine.{IsMeant}
 
 -- No expression or one.
