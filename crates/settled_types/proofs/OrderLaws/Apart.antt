@@ -1,8 +1,7 @@
 -- The objects of all subprograms with a body are those of one part of the program: no object is one of two
 -- subprograms.
-use Rattle.std.proofs.Common.{◌≡◌, refl, sym, ap, ◌∙◌, inl, inr, ℕ, ◌+◌, true, false, ◌&&◌, ◌||◌, List, [], ◌∷◌, ◌++◌, arith}
+use Rattle.std.proofs.Common.{◌≡◌, refl, sym, ap, ◌∙◌, inl, inr, ℕ, ◌+◌, true, false, ◌&&◌, ◌||◌, List, [], ◌∷◌, ◌++◌, append-nil}
 use Rattle.std.specs.Prelude.{flat_map}
-use Rattle.std.proofs.lemmas.Grind.{common_steps}
 use Rattle.std.proofs.lemmas.List.{append_assoc}
 use Rattle.std.proofs.lemmas.Bool.{false≢true}
 use Rattle.spark_base.specs.Lists.{Has}
@@ -36,7 +35,7 @@ both s all more xs ys (os, is, part) (us, are, rest) =
     (os ++ us, objects_both xs ys ∙ ap (λ z. z ++ flat_map code.objects_of ys) is ∙ ap (λ z. numbers s os ++ z) are ∙ sym (numbers_both s os us), part_both os all us more part rest)
 
 nothing_more : (xs : List ℕ) → xs ++ [] ≡ xs
-nothing_more xs = grind (arith, common_steps)
+nothing_more xs = append-nil xs
 
 module _ (units : List Code) where
   one_body : (s site : Site) (h : Home) (a n m : ℕ) (front items stmts : Code) (end : Pos) → site.objects ≡ s.objects → are_declarations items && are_statements false stmts ≡ true

@@ -1,7 +1,6 @@
 -- The objects of a body have numbers of their own, where each declaration of an object has one.
-use Rattle.std.proofs.Common.{◌≡◌, refl, sym, ap, ◌∙◌, ℕ, ◌+◌, Bool, true, false, List, [], ◌∷◌, ◌++◌, map, arith}
+use Rattle.std.proofs.Common.{◌≡◌, refl, sym, ap, ◌∙◌, ℕ, ◌+◌, Bool, true, false, List, [], ◌∷◌, ◌++◌, map, append-nil}
 use Rattle.std.specs.Prelude.{flat_map}
-use Rattle.std.proofs.lemmas.Grind.{common_steps}
 use Rattle.std.proofs.lemmas.List.{append_assoc}
 use Rattle.std.proofs.lemmas.Bool.{false≢true}
 use Rattle.place_names.specs.declared.act.Mode.{Mode}
@@ -47,7 +46,7 @@ module _ (s : Site) where
 
   declared_one : (c : TypedCode) → declared_in (c ∷ []) ≡ declared_within c
   unfolding declared_within
-  declared_one c = grind (arith, common_steps)
+  declared_one c = append-nil (declared_within c)
 
   pub two : (cs ds : List TypedCode) (os us : List DeclaredObject) → declared_in cs ≡ numbers os → declared_in ds ≡ numbers us
       → declared_in (cs ++ ds) ≡ numbers (os ++ us)

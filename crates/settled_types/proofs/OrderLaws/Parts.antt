@@ -1,7 +1,6 @@
 -- The objects of a body are those of a part of the program, and each has a number of its own.
-use Rattle.std.proofs.Common.{◌≡◌, refl, sym, ap, ◌∙◌, subst, ◌⊎◌, inl, inr, ℕ, ◌+◌, ◌≤◌, ◌<◌, Bool, true, false, not, cond, nat_eq, List, [], ◌∷◌, ◌++◌, map, length, get_or, arith}
+use Rattle.std.proofs.Common.{◌≡◌, refl, sym, ap, ◌∙◌, subst, ◌⊎◌, inl, inr, ℕ, ◌+◌, ◌≤◌, ◌<◌, Bool, true, false, not, cond, nat_eq, List, [], ◌∷◌, ◌++◌, map, length, get_or, append-nil, add-one, one-add, arith}
 use Rattle.std.specs.List.{position_or_len}
-use Rattle.std.proofs.lemmas.Grind.{common_steps}
 use Rattle.std.proofs.lemmas.List.{length-map}
 use Rattle.spark_base.specs.Lists.{Has}
 use Rattle.spark_base.proofs.Lists.{Has-map, Has-map_from}
@@ -44,10 +43,10 @@ less_one m n e = omega (arith, e)
 
 -- An object after the first one.
 pub one_on : (o : Object) (os : List Object) (k : ℕ) (other : Object) → get_or (o ∷ os) (1 + k) other ≡ get_or os k other
-one_on o os k other = grind (arith, common_steps)
+one_on o os k other = ap (λ n. get_or (o ∷ os) n other) (one-add k)
 
 pub one_more : (o : Object) (os : List Object) (k : ℕ) (other : Object) → get_or (o ∷ os) (k + 1) other ≡ get_or os k other
-one_more o os k other = grind (arith, common_steps)
+one_more o os k other = ap (λ n. get_or (o ∷ os) n other) (add-one k)
 
 -- Two numbers of a list that stand at one place are one.
 one_place : (xs : List ℕ) (d e : ℕ) → Has xs d → Has xs e → position_or_len (nat_eq d) xs ≡ position_or_len (nat_eq e) xs → d ≡ e
@@ -121,7 +120,7 @@ part_both some (o ∷ all) more whole (inl h) g = inl (h.0 ++ more, ap (λ xs. x
 part_both some (o ∷ all) more whole (inr h) g = inr (part_both some all more whole h g)
 
 nothing_more : (xs : List DeclaredObject) → xs ++ [] ≡ xs
-nothing_more xs = grind (arith, common_steps)
+nothing_more xs = append-nil xs
 
 pub part_left : (some all more : List DeclaredObject) → IsPart some all → IsPart some (all ++ more)
 part_left some all more h = subst (λ xs. IsPart xs (all ++ more)) (nothing_more some) (part_both some all [] more h (part_none more))

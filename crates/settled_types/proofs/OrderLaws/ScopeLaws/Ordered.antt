@@ -2,7 +2,6 @@
 use Rattle.std.proofs.Common.{◌≡◌, refl, sym, ap, ◌∙◌, subst, inl, inr, ℕ, suc, Bool, true, false, ◌&&◌, ◌||◌, eq-eqb, List, [], ◌∷◌, ◌++◌, length, arith, if◌then◌else◌}
 use Rattle.std.specs.Prelude.{flat_map, drop, reverse, is_some}
 use Rattle.std.specs.List.{AllByRecursion}
-use Rattle.std.proofs.lemmas.Grind.{common_steps}
 use Rattle.std.proofs.lemmas.Bool.{false≢true, true≢false}
 use Rattle.spark_base.specs.Lists.{Has}
 use Rattle.spark_base.proofs.Lists.{Has-append_left, Has-append_right, Has-append_cases, Has-filter}
@@ -292,7 +291,7 @@ module _ (s : Setting) (is : ℕ → Type 0) (apart : (x : ℕ) → is x → IsT
   ends_ordered formals at row p [] scope k each ways = tt
   ends_ordered formals at row p (x ∷ xs) scope k each ways =
       let left : List ℕ = drop 1 (from x scope) in
-      let same : left ≡ ways.0 = ap (λ sc. drop 1 sc) ways.3 ∙ grind (arith, common_steps) in (
+      let same : left ≡ ways.0 = ap (λ sc. drop 1 sc) ways.3 in (
         ends_there formals (row_at at row) p x (from x scope) ways.0 (entry (ends at (suc row) p xs left k) k) (each x (inl refl)) ways.3,
         ends_ordered formals at (suc row) p xs left k (λ y has. each y (inr has)) (subst (λ sc. Unwinds s.typing Any xs sc) (sym same) ways.4),
       )

@@ -1,8 +1,7 @@
 -- Each point has as many successors as its instruction leads to.
-use Rattle.std.proofs.Common.{◌≡◌, refl, sym, ◌∙◌, subst, ℕ, suc, Bool, true, false, List, [], ◌∷◌, ◌++◌, length, arith, if◌then◌else◌}
+use Rattle.std.proofs.Common.{◌≡◌, refl, sym, ◌∙◌, subst, ℕ, suc, Bool, true, false, List, [], ◌∷◌, ◌++◌, length, if◌then◌else◌, ap, append-nil, length-append, ◌+◌, one-add}
 use Rattle.std.specs.Prelude.{None, flat_map, drop, reverse, is_some}
 use Rattle.std.specs.List.{AllByRecursion}
-use Rattle.std.proofs.lemmas.Grind.{common_steps}
 use Rattle.std.proofs.lemmas.Bool.{false≢true}
 use Rattle.spark_base.specs.declared.position.Pos.{Pos}
 use Rattle.typed_tree.specs.Trees.{TypedTree, Name, Component, Designated, Element, Image, Parens, Unary, Binary, Short, IsNull, Aggregate, Alike, New, TypedCode, Declare, Assign, Skip, Output, Input, Release, If, Branch, Case, When, Loop, While, For, Exit, Return, Block}
@@ -34,7 +33,7 @@ entry_one [] k one = one
 entry_one (p ∷ ps) k one = refl
 
 two : (a b : List PointName) → One a → One b → length (a ++ b) ≡ 2
-two a b x y = grind (arith, common_steps, x, y)
+two a b x y = length-append a b ∙ ap (λ n. n + length b) x ∙ ap (λ n. 1 + n) y
 
 both : (ps qs : List NamedPoint) → Counted ps → Counted qs → Counted (ps ++ qs)
 both ps qs h g = all_both IsCounted ps qs h g
@@ -118,7 +117,7 @@ closing_one ps q = subst One (sym (entry_append ps (q ∷ []) [])) (entry_one ps
 -- ---- statements
 
 alone : (out : List PointName) → One out → One (out ++ [])
-alone out x = grind (arith, common_steps, x)
+alone out x = subst One (sym (append-nil out)) x
 
 leave_count : (e : TypedTree) (out k : List PointName) → One out → One k → length (out ++ unless_empty e k) ≡ successors (instruction.LeaveLoop e)
 leave_count (typed.More e rest) out k x y = two out k x y
@@ -144,7 +143,7 @@ leave_count (Alike t e) out k x y = alone out x
 leave_count (New t e) out k x y = alone out x
 
 one_before : (a b : List PointName) (n : ℕ) → One a → length b ≡ n → length (a ++ b) ≡ suc n
-one_before a b n x y = grind (arith, common_steps, x, y)
+one_before a b n x y = length-append a b ∙ ap (λ m. m + length b) x ∙ ap (λ m. 1 + m) y ∙ one-add n
 
 choices_more : (a rest : TypedCode) (looped : Bool) → is_formed_alternative looped a ≡ true → length (choices_of (typed.More a rest)) ≡ suc (length (choices_of rest))
 unfolding choices_of is_formed_alternative

@@ -1,9 +1,8 @@
 -- Lists of objects whose scopes end one after the other, where what is in scope is in order.
-use Rattle.std.proofs.Common.{◌≡◌, refl, sym, ap, ◌∙◌, subst, inl, inr, ℕ, Bool, true, false, ◌&&◌, ◌||◌, ◌==◌, eqb-true, eq-eqb, List, [], ◌∷◌, ◌++◌, append_assoc, arith, if◌then◌else◌}
+use Rattle.std.proofs.Common.{◌≡◌, refl, sym, ap, ◌∙◌, subst, inl, inr, ℕ, Bool, true, false, ◌&&◌, ◌||◌, ◌==◌, eqb-true, eq-eqb, List, [], ◌∷◌, ◌++◌, append_assoc, if◌then◌else◌}
 use Rattle.std.specs.Prelude.{cond, filter, drop, reverse}
 use Rattle.std.specs.List.{list_all}
 use Rattle.std.proofs.lemmas.List.{reverse-append}
-use Rattle.std.proofs.lemmas.Grind.{common_steps}
 use Rattle.std.proofs.lemmas.Bool.{false≢true}
 use Rattle.spark_base.specs.Lists.{Has}
 use Rattle.spark_base.proofs.Lists.{Has-append_cases}
@@ -23,7 +22,7 @@ all_test test (y ∷ xs) x all (inl e) = subst (λ z. test z ≡ true) e (and_fi
 all_test test (y ∷ xs) x all (inr has) = all_test test xs x (and_second (test y) (list_all test xs) all) has
 
 drop_one : (x : ℕ) (xs : List ℕ) → drop 1 (x ∷ xs) ≡ xs
-drop_one x xs = grind (arith, common_steps)
+drop_one x xs = refl
 
 module _ (s : Typing) (older : ℕ → ℕ → Bool) (fits : Instruction → Bool) where
   -- ---- what is in scope

@@ -1,9 +1,8 @@
 -- At each point of layered code what is in scope is older than what is declared there, or than the
 -- object whose scope ends; and the ends of the objects of a scope follow one another.
-use Rattle.std.proofs.Common.{◌≡◌, refl, sym, ap, ◌∙◌, subst, ℕ, suc, Bool, true, false, not, ◌&&◌, ◌||◌, ◌==◌, eq-eqb, List, [], ◌∷◌, ◌++◌, length, arith, if◌then◌else◌}
+use Rattle.std.proofs.Common.{◌≡◌, refl, sym, ap, ◌∙◌, subst, ℕ, suc, Bool, true, false, not, ◌&&◌, ◌||◌, ◌==◌, eq-eqb, List, [], ◌∷◌, ◌++◌, length, arith, if◌then◌else◌, append-nil}
 use Rattle.std.specs.Prelude.{flat_map, drop, reverse, is_some}
 use Rattle.std.specs.List.{AllByRecursion, list_all}
-use Rattle.std.proofs.lemmas.Grind.{common_steps}
 use Rattle.spark_base.specs.Lists.{Has}
 use Rattle.spark_base.specs.declared.position.Pos.{Pos}
 use Rattle.typed_tree.specs.Trees.{TypedTree, Name, Component, Designated, Element, Image, Parens, Unary, Binary, Short, IsNull, Aggregate, Alike, New, TypedCode, Declare, Assign, Skip, Output, Input, Release, If, Branch, Case, When, Loop, While, For, Exit, Return, Block}
@@ -169,7 +168,7 @@ module _ (s : Setting) (older : ℕ → ℕ → Bool) (fits : Instruction → Bo
   heads_on at row p n (x ∷ xs) scope k h = (x, refl, h, refl)
 
   left_is : (x : ℕ) (scope rest : List ℕ) → from x scope ≡ x ∷ rest → drop 1 (from x scope) ≡ rest
-  left_is x scope rest is = ap (λ sc. drop 1 sc) is ∙ grind (arith, common_steps)
+  left_is x scope rest is = ap (λ sc. drop 1 sc) is
 
   ends_good : (at : Place) (row : ℕ) (p : Pos) (xs scope : List ℕ) (k : List PointName) → Closes s.typing older fits xs scope → Good (ends at row p xs scope k)
   ends_good at row p [] scope k h = none
@@ -211,7 +210,7 @@ module _ (s : Setting) (older : ℕ → ℕ → Bool) (fits : Instruction → Bo
   Layered scope c = is_layered s.typing older fits scope c ≡ true
 
   no_more : (xs : List ℕ) → xs ++ [] ≡ xs
-  no_more xs = grind (arith, common_steps)
+  no_more xs = append-nil xs
 
   not_and : (a b : Bool) → not a && b ≡ true → a ≡ false
   not_and true b e = sym e
