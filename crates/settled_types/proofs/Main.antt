@@ -3,16 +3,16 @@ use Rattle.std.proofs.Common.{◌≡◌, ◌⊎◌, inl, inr, ℕ, zero, suc, �
 use Rattle.std.specs.Prelude.{slice_get}
 use Rattle.std.proofs.lemmas.Bool.{cases_eq}
 use Rattle.std.proofs.lemmas.List.{length-replicate}
-use Rattle.spark_base.specs.Lists.{Has}
-use Rattle.resolved_tree.specs.Trees.{Code, Program}
-use Rattle.type_definitions.specs.declared.table.Known.{Known}
-use Rattle.type_definitions.specs.declared.table.Entry.TheVariants as entry
-use Rattle.type_definitions.specs.declared.table.Shape.TheVariants as shape
-use Rattle.type_definitions.specs.Types.{Table, info, info_found, base, no_type}
-use Rattle.type_definitions.specs.Entries.{entry_of, is_type}
-use Rattle.type_definitions.specs.Names.{Context}
-use Rattle.type_definitions.specs.Gathered.{gather}
-use Rattle.type_definitions.specs.Whole.{type_fault, known_of, known_from, outside, at_first, gather_units, predefined_types}
+use Rattle.machine.specs.flow_paths.typed_tree.type_definitions.resolved_tree.spark_base.Lists.{Has}
+use Rattle.machine.specs.flow_paths.typed_tree.type_definitions.resolved_tree.Trees.{Code, Program}
+use Rattle.machine.specs.flow_paths.typed_tree.type_definitions.declared.table.Known.{Known}
+use Rattle.machine.specs.flow_paths.typed_tree.type_definitions.declared.table.Entry.TheVariants as entry
+use Rattle.machine.specs.flow_paths.typed_tree.type_definitions.declared.table.Shape.TheVariants as shape
+use Rattle.machine.specs.flow_paths.typed_tree.type_definitions.Types.{Table, info, info_found, base, no_type}
+use Rattle.machine.specs.flow_paths.typed_tree.type_definitions.Entries.{entry_of, is_type}
+use Rattle.machine.specs.flow_paths.typed_tree.type_definitions.Names.{Context}
+use Rattle.machine.specs.flow_paths.typed_tree.type_definitions.Gathered.{gather}
+use Rattle.machine.specs.flow_paths.typed_tree.type_definitions.Whole.{type_fault, known_of, known_from, outside, at_first, gather_units, predefined_types}
 use Rattle.type_settled.specs.Reach.{holds}
 use Rattle.type_settled.specs.Rings.{IsPart}
 use Rattle.type_sizes.specs.Formed.{all_formed}

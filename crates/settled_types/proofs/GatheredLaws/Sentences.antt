@@ -3,20 +3,20 @@
 use Rattle.std.proofs.Common.{◌≡◌, ◌⊎◌, inl, inr, ℕ, zero, suc, ◌+◌, ◌-◌, ◌<◌, ◌≤◌, Bool, true, false, ◌&&◌, List, [], ◌∷◌, ◌++◌, flat_map, length, get_or, replicate, refl, sym, ap, ◌∙◌, arith, subst, Option, Some, None, true≢false, if◌then◌else◌}
 use Rattle.std.specs.Prelude.{slice_get}
 use Rattle.std.proofs.lemmas.Bool.{cases_lt}
-use Rattle.spark_base.specs.Lists.{Has}
-use Rattle.resolved_tree.specs.Trees.{Tree, Named, Argument, NoMore, More, Code, Enumeration, TypeDecl, Instance, SubBody, Package, PackageBody, If, Branch, Case, When, Loop, While, For, Block, Program}
-use Rattle.type_definitions.specs.declared.table.Entry.{Entry}
-use Rattle.type_definitions.specs.declared.table.Entry.TheVariants as entry
-use Rattle.type_definitions.specs.declared.table.Known.{Known}
-use Rattle.type_definitions.specs.declared.table.Info.{Info}
-use Rattle.type_definitions.specs.declared.table.Shape.{Shape}
-use Rattle.type_definitions.specs.declared.table.Shape.TheVariants as shape
-use Rattle.type_definitions.specs.Types.{Table, base, meant_type, meant_type_found, shape_of, shape_found, full, view_of}
-use Rattle.type_definitions.specs.Entries.{entry_of, integer, is_type}
-use Rattle.type_definitions.specs.Names.{Context}
-use Rattle.type_definitions.specs.Gathered.{declared_number, actual_type, is_for_name, instance_actual, instance_type}
-use Rattle.type_definitions.specs.Declarations.{is_named_access, names_type, all_types}
-use Rattle.type_definitions.specs.Whole.{predefined_types, predefined_entries, outside, gather_units, known_of}
+use Rattle.machine.specs.flow_paths.typed_tree.type_definitions.resolved_tree.spark_base.Lists.{Has}
+use Rattle.machine.specs.flow_paths.typed_tree.type_definitions.resolved_tree.Trees.{Tree, Named, Argument, NoMore, More, Code, Enumeration, TypeDecl, Instance, SubBody, Package, PackageBody, If, Branch, Case, When, Loop, While, For, Block, Program}
+use Rattle.machine.specs.flow_paths.typed_tree.type_definitions.declared.table.Entry.{Entry}
+use Rattle.machine.specs.flow_paths.typed_tree.type_definitions.declared.table.Entry.TheVariants as entry
+use Rattle.machine.specs.flow_paths.typed_tree.type_definitions.declared.table.Known.{Known}
+use Rattle.machine.specs.flow_paths.typed_tree.type_definitions.declared.table.Info.{Info}
+use Rattle.machine.specs.flow_paths.typed_tree.type_definitions.declared.table.Shape.{Shape}
+use Rattle.machine.specs.flow_paths.typed_tree.type_definitions.declared.table.Shape.TheVariants as shape
+use Rattle.machine.specs.flow_paths.typed_tree.type_definitions.Types.{Table, base, meant_type, meant_type_found, shape_of, shape_found, full, view_of}
+use Rattle.machine.specs.flow_paths.typed_tree.type_definitions.Entries.{entry_of, integer, is_type}
+use Rattle.machine.specs.flow_paths.typed_tree.type_definitions.Names.{Context}
+use Rattle.machine.specs.flow_paths.typed_tree.type_definitions.Gathered.{declared_number, actual_type, is_for_name, instance_actual, instance_type}
+use Rattle.machine.specs.flow_paths.typed_tree.type_definitions.Declarations.{is_named_access, names_type, all_types}
+use Rattle.machine.specs.flow_paths.typed_tree.type_definitions.Whole.{predefined_types, predefined_entries, outside, gather_units, known_of}
 use Rattle.machine.specs.Typed.{same_kind}
 use Rattle.soundness.specs.TypedLaws.Fine.{Agree, counts, lists}
 use Rattle.settled_types.specs.Wholes.{written}

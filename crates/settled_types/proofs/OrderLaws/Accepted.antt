@@ -1,9 +1,9 @@
 -- The subprograms of an accepted program whose resolved code is orderly are in order.
 use Rattle.std.proofs.Common.{◌≡◌, None}
-use Rattle.resolved_tree.specs.Trees.{Program}
-use Rattle.type_definitions.specs.Types.{Table}
-use Rattle.type_definitions.specs.Whole.{known_of, type_fault}
-use Rattle.flow_paths.specs.declared.report.Effects.{Effects}
+use Rattle.machine.specs.flow_paths.typed_tree.type_definitions.resolved_tree.Trees.{Program}
+use Rattle.machine.specs.flow_paths.typed_tree.type_definitions.Types.{Table}
+use Rattle.machine.specs.flow_paths.typed_tree.type_definitions.Whole.{known_of, type_fault}
+use Rattle.machine.specs.flow_paths.declared.report.Effects.{Effects}
 use Rattle.soundness.specs.Typed.{OwnsByShape}
 use Rattle.soundness.specs.Sound.{Accepted}
 use Rattle.settled_types.specs.OrderLaws.ReadyLaws.InOrder.{IsInOrder}

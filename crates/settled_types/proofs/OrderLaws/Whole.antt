@@ -4,32 +4,32 @@ use Rattle.std.proofs.Common.{◌≡◌, refl, sym, ap, ◌∙◌, subst, inl, i
 use Rattle.std.specs.Prelude.{flat_map, is_some}
 use Rattle.std.specs.List.{AllByRecursion}
 use Rattle.std.proofs.lemmas.List.{length-map}
-use Rattle.spark_base.specs.Lists.{Has}
+use Rattle.machine.specs.flow_paths.typed_tree.type_definitions.resolved_tree.spark_base.Lists.{Has}
 use Rattle.spark_base.proofs.Lists.{Has-append_left, Has-append_right, Has-append_cases, Has-map}
-use Rattle.place_names.specs.declared.act.Mode.{Mode}
-use Rattle.place_names.specs.declared.act.Mode.TheVariants as mode
-use Rattle.resolved_tree.specs.Trees.{Code, Objects, Numbers, Formals, SubBody, Package, PackageBody, If, Branch, Case, When, Loop, While, For, Block, More, code_items}
-use Rattle.type_definitions.specs.declared.table.Kind.{Kind}
-use Rattle.type_definitions.specs.declared.table.Kind.TheVariants as kind
-use Rattle.type_definitions.specs.declared.table.Known.{Known}
-use Rattle.type_definitions.specs.declared.table.Entry.{Entry}
-use Rattle.type_definitions.specs.declared.table.Entry.TheVariants as entry
-use Rattle.type_definitions.specs.Types.{Table, full, is_scalar}
-use Rattle.type_definitions.specs.Entries.{entry_of}
-use Rattle.type_definitions.specs.Gathered.{declared_number, declared_text}
-use Rattle.type_definitions.specs.Declarations.{code_faults}
-use Rattle.type_definitions.specs.Whole.{outside}
-use Rattle.typed_tree.specs.declared.object.Object.{Object}
-use Rattle.typed_tree.specs.Trees.{TypedCode}
-use Rattle.typed_tree.specs.Trees as typed
-use Rattle.typed_tree.specs.Expressions.{Site}
-use Rattle.typed_tree.specs.Statements.{scope_count}
-use Rattle.typed_tree.specs.Programs.{TypedSub, TypedProgram, DeclaredObject, Home, objects_in, object_of, formals_of, front_formals, local, in_package, package_text, kind_of, entry_kind, program_objects, text_io, site_of, subs_in, elaborated, elaboration, over_units, typed_program}
-use Rattle.flow_paths.specs.Objects.{Typing, object_at, is_formal, is_package_object, is_state}
-use Rattle.flow_paths.specs.Points.{NamedPoint, entry}
-use Rattle.flow_paths.specs.Layout.{laid}
-use Rattle.flow_paths.specs.Laid.{temporary_object, declared_within, NamedSub, around_body, procedure_end, function_end, sub_temporaries, named_sub, named_subs, all_named, flow_sub, typing_of, flow_typing, flow_program, flow_named}
-use Rattle.flow_paths.specs.Scopes.{is_temporary, is_settled}
+use Rattle.machine.specs.flow_paths.typed_tree.type_definitions.resolved_tree.place_names.declared.act.Mode.{Mode}
+use Rattle.machine.specs.flow_paths.typed_tree.type_definitions.resolved_tree.place_names.declared.act.Mode.TheVariants as mode
+use Rattle.machine.specs.flow_paths.typed_tree.type_definitions.resolved_tree.Trees.{Code, Objects, Numbers, Formals, SubBody, Package, PackageBody, If, Branch, Case, When, Loop, While, For, Block, More, code_items}
+use Rattle.machine.specs.flow_paths.typed_tree.type_definitions.declared.table.Kind.{Kind}
+use Rattle.machine.specs.flow_paths.typed_tree.type_definitions.declared.table.Kind.TheVariants as kind
+use Rattle.machine.specs.flow_paths.typed_tree.type_definitions.declared.table.Known.{Known}
+use Rattle.machine.specs.flow_paths.typed_tree.type_definitions.declared.table.Entry.{Entry}
+use Rattle.machine.specs.flow_paths.typed_tree.type_definitions.declared.table.Entry.TheVariants as entry
+use Rattle.machine.specs.flow_paths.typed_tree.type_definitions.Types.{Table, full, is_scalar}
+use Rattle.machine.specs.flow_paths.typed_tree.type_definitions.Entries.{entry_of}
+use Rattle.machine.specs.flow_paths.typed_tree.type_definitions.Gathered.{declared_number, declared_text}
+use Rattle.machine.specs.flow_paths.typed_tree.type_definitions.Declarations.{code_faults}
+use Rattle.machine.specs.flow_paths.typed_tree.type_definitions.Whole.{outside}
+use Rattle.machine.specs.flow_paths.typed_tree.declared.object.Object.{Object}
+use Rattle.machine.specs.flow_paths.typed_tree.Trees.{TypedCode}
+use Rattle.machine.specs.flow_paths.typed_tree.Trees as typed
+use Rattle.machine.specs.flow_paths.typed_tree.Expressions.{Site}
+use Rattle.machine.specs.flow_paths.typed_tree.Statements.{scope_count}
+use Rattle.machine.specs.flow_paths.typed_tree.Programs.{TypedSub, TypedProgram, DeclaredObject, Home, objects_in, object_of, formals_of, front_formals, local, in_package, package_text, kind_of, entry_kind, program_objects, text_io, site_of, subs_in, elaborated, elaboration, over_units, typed_program}
+use Rattle.machine.specs.flow_paths.Objects.{Typing, object_at, is_formal, is_package_object, is_state}
+use Rattle.machine.specs.flow_paths.Points.{NamedPoint, entry}
+use Rattle.machine.specs.flow_paths.Layout.{laid}
+use Rattle.machine.specs.flow_paths.Laid.{temporary_object, declared_within, NamedSub, around_body, procedure_end, function_end, sub_temporaries, named_sub, named_subs, all_named, flow_sub, typing_of, flow_typing, flow_program, flow_named}
+use Rattle.machine.specs.flow_paths.Scopes.{is_temporary, is_settled}
 use Rattle.soundness.specs.Typed.{OwnsByShape}
 use Rattle.soundness.specs.TypedLaws.Needed.{IsFine, AreFine}
 use Rattle.soundness.proofs.Points.{flow_at}

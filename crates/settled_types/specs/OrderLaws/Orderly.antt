@@ -1,14 +1,14 @@
 -- What is asked of the resolved code of an accepted program so that it is ready: beside what typing and the
 -- reports say.
 use Rattle.std.specs.Prelude.{◌≡◌, ℕ, true, false, List, map, Some}
-use Rattle.spark_base.specs.Lists.{Has}
-use Rattle.resolved_tree.specs.Trees.{Code, Program}
-use Rattle.type_definitions.specs.Types.{is_owning}
-use Rattle.type_definitions.specs.Entries.{integer}
-use Rattle.type_definitions.specs.Whole.{known_of}
-use Rattle.typed_tree.specs.Programs.{TypedSub, TypedProgram, DeclaredObject, program_objects, site_of, subs_in, over_units, typed_program}
-use Rattle.flow_paths.specs.Objects.{Typing, is_formal, is_package_object}
-use Rattle.flow_paths.specs.Laid.{typing_of}
+use Rattle.machine.specs.flow_paths.typed_tree.type_definitions.resolved_tree.spark_base.Lists.{Has}
+use Rattle.machine.specs.flow_paths.typed_tree.type_definitions.resolved_tree.Trees.{Code, Program}
+use Rattle.machine.specs.flow_paths.typed_tree.type_definitions.Types.{is_owning}
+use Rattle.machine.specs.flow_paths.typed_tree.type_definitions.Entries.{integer}
+use Rattle.machine.specs.flow_paths.typed_tree.type_definitions.Whole.{known_of}
+use Rattle.machine.specs.flow_paths.typed_tree.Programs.{TypedSub, TypedProgram, DeclaredObject, program_objects, site_of, subs_in, over_units, typed_program}
+use Rattle.machine.specs.flow_paths.Objects.{Typing, is_formal, is_package_object}
+use Rattle.machine.specs.flow_paths.Laid.{typing_of}
 use Rattle.settled_types.specs.OrderLaws.ScopeLaws.Code.{Once, body_seen}
 use Rattle.settled_types.specs.OrderLaws.Written.{is_unit}
 

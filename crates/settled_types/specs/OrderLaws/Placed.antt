@@ -1,9 +1,9 @@
 -- Typed code in which declarations stand before statements, in blocks and bodies alone, and branches and
 -- alternatives where they may: what `is_settled` of flow_paths asks of where code stands.
 use Rattle.std.specs.Prelude.{ℕ, Bool, true, false, ◌&&◌, ◌||◌, List, [], ◌∷◌, ◌++◌}
-use Rattle.typed_tree.specs.Trees.{TypedCode}
-use Rattle.typed_tree.specs.Trees as typed
-use Rattle.flow_paths.specs.Scopes.{is_declaration, is_undeclaring}
+use Rattle.machine.specs.flow_paths.typed_tree.Trees.{TypedCode}
+use Rattle.machine.specs.flow_paths.typed_tree.Trees as typed
+use Rattle.machine.specs.flow_paths.Scopes.{is_declaration, is_undeclaring}
 
 unfoldable mutual
   pub is_placed : TypedCode → Bool

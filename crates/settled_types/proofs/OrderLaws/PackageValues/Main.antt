@@ -1,11 +1,11 @@
 -- The package objects of a program without a fault of typing are declared without calls.
 use Rattle.std.proofs.Common.{◌≡◌, ap, ◌∙◌, not, true, List, None}
-use Rattle.spark_base.specs.Lists.{Has}
-use Rattle.resolved_tree.specs.Trees.{Code, Program}
-use Rattle.type_definitions.specs.Whole.{known_of, type_fault}
-use Rattle.typed_tree.specs.Programs.{TypedSub, elaborated, over_units, site_of, elaboration}
-use Rattle.flow_paths.specs.Points.{NamedPoint}
-use Rattle.flow_paths.specs.Laid.{unnumbered, elaboration_points, typing_of}
+use Rattle.machine.specs.flow_paths.typed_tree.type_definitions.resolved_tree.spark_base.Lists.{Has}
+use Rattle.machine.specs.flow_paths.typed_tree.type_definitions.resolved_tree.Trees.{Code, Program}
+use Rattle.machine.specs.flow_paths.typed_tree.type_definitions.Whole.{known_of, type_fault}
+use Rattle.machine.specs.flow_paths.typed_tree.Programs.{TypedSub, elaborated, over_units, site_of, elaboration}
+use Rattle.machine.specs.flow_paths.Points.{NamedPoint}
+use Rattle.machine.specs.flow_paths.Laid.{unnumbered, elaboration_points, typing_of}
 use Rattle.soundness.specs.Sound.{calls_procedures}
 use Rattle.settled_types.proofs.OrderLaws.ScopeLaws.Lists.{all_has}
 use Rattle.settled_types.specs.OrderLaws.ReadyLaws.InOrder.{declares_only, AreStill}

@@ -5,21 +5,21 @@ use Rattle.std.specs.Prelude.{reverse}
 use Rattle.std.specs.List.{AllByRecursion}
 use Rattle.std.proofs.lemmas.List.{length-map}
 use Rattle.std.proofs.lemmas.Bool.{false≢true}
-use Rattle.spark_base.specs.Lists.{Has}
+use Rattle.machine.specs.flow_paths.typed_tree.type_definitions.resolved_tree.spark_base.Lists.{Has}
 use Rattle.spark_base.proofs.Lists.{Has-append_right, Has-map, Has-map_from}
-use Rattle.type_definitions.specs.Types.{Table}
-use Rattle.typed_tree.specs.Trees.{TypedTree, Name}
-use Rattle.typed_tree.specs.declared.object.Object.{Object}
-use Rattle.typed_tree.specs.Programs.{TypedSub, TypedProgram, text_io}
-use Rattle.flow_paths.specs.declared.report.Effects.{Effects}
-use Rattle.flow_paths.specs.Instructions.{Instruction, Declare, Assign, Call, Input, Release, Evaluate, EndScope, Finish}
-use Rattle.flow_paths.specs.Objects.{Typing, object_at, is_formal, is_package_object}
-use Rattle.flow_paths.specs.Points.{NamedPoint, FlowPoint}
-use Rattle.flow_paths.specs.Laid.{Temporary, temporary_object, FlowSub, FlowProgram, NamedSub, unnumbered, named_sub, named_subs, elaborated, all_named, sub_temporaries, sub_points, elaboration_points, number_in, flow_sub, typing_of, flow_typing, flow_program, flow_named}
-use Rattle.flow_paths.specs.Paths.{ControlPath}
+use Rattle.machine.specs.flow_paths.typed_tree.type_definitions.Types.{Table}
+use Rattle.machine.specs.flow_paths.typed_tree.Trees.{TypedTree, Name}
+use Rattle.machine.specs.flow_paths.typed_tree.declared.object.Object.{Object}
+use Rattle.machine.specs.flow_paths.typed_tree.Programs.{TypedSub, TypedProgram, text_io}
+use Rattle.machine.specs.flow_paths.declared.report.Effects.{Effects}
+use Rattle.machine.specs.flow_paths.Instructions.{Instruction, Declare, Assign, Call, Input, Release, Evaluate, EndScope, Finish}
+use Rattle.machine.specs.flow_paths.Objects.{Typing, object_at, is_formal, is_package_object}
+use Rattle.machine.specs.flow_paths.Points.{NamedPoint, FlowPoint}
+use Rattle.machine.specs.flow_paths.Laid.{Temporary, temporary_object, FlowSub, FlowProgram, NamedSub, unnumbered, named_sub, named_subs, elaborated, all_named, sub_temporaries, sub_points, elaboration_points, number_in, flow_sub, typing_of, flow_typing, flow_program, flow_named}
+use Rattle.machine.specs.flow_paths.Paths.{ControlPath}
 use Rattle.machine.specs.Run.{no_point}
-use Rattle.flow_paths.specs.Effects.{path_points}
-use Rattle.flow_paths.specs.Scopes.{is_within, is_ready, is_settled, is_temporary, taken}
+use Rattle.machine.specs.flow_paths.Effects.{path_points}
+use Rattle.machine.specs.flow_paths.Scopes.{is_within, is_ready, is_settled, is_temporary, taken}
 use Rattle.machine.specs.States.{sub_of}
 use Rattle.machine.specs.Typed.{successors}
 use Rattle.soundness.specs.Typed.{OwnsByShape}
@@ -45,7 +45,7 @@ use Rattle.settled_types.proofs.OrderLaws.ReadyLaws.Returned.{valued, returned_o
 use Rattle.settled_types.proofs.OrderLaws.ReadyLaws.Elaborated.{Declares, package_declares}
 use Rattle.settled_types.proofs.OrderLaws.ReadyLaws.Subs.{setting_from, IsOfBody, named_cases, body_at, one_named}
 use Rattle.soundness.proofs.Successors.{not_true}
-use Rattle.flow_paths.specs.Names.{has_call}
+use Rattle.machine.specs.flow_paths.Names.{has_call}
 
 -- ---- what instructions name
 

@@ -1,12 +1,12 @@
 -- The subprograms of the layout are those of the typed program, by their numbers.
 use Rattle.std.proofs.Common.{◌≡◌, refl, sym, ap, ◌∙◌, subst, ◌⊎◌, inl, inr, ℕ, suc, ◌+◌, ◌≤◌, List, [], ◌∷◌, ◌++◌, length, arith}
 use Rattle.std.specs.Prelude.{flat_map}
-use Rattle.spark_base.specs.Lists.{Has}
+use Rattle.machine.specs.flow_paths.typed_tree.type_definitions.resolved_tree.spark_base.Lists.{Has}
 use Rattle.spark_base.proofs.Lists.{Has-append_left, Has-append_right}
-use Rattle.typed_tree.specs.Programs.{TypedSub}
-use Rattle.flow_paths.specs.Objects.{Typing}
-use Rattle.flow_paths.specs.Prep.{Setting}
-use Rattle.flow_paths.specs.Laid.{NamedSub, numbers_from, sub_temporaries, named_sub, named_subs, elaborated, all_named}
+use Rattle.machine.specs.flow_paths.typed_tree.Programs.{TypedSub}
+use Rattle.machine.specs.flow_paths.Objects.{Typing}
+use Rattle.machine.specs.flow_paths.Prep.{Setting}
+use Rattle.machine.specs.flow_paths.Laid.{NamedSub, numbers_from, sub_temporaries, named_sub, named_subs, elaborated, all_named}
 use Rattle.soundness.specs.Sound.{IsNamedSub}
 use Rattle.settled_types.specs.OrderLaws.ScopeLaws.Code.{Once, objects_of}
 use Rattle.settled_types.proofs.OrderLaws.ScopeLaws.Lists.{once_right, once_apart}

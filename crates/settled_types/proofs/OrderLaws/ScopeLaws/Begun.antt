@@ -2,20 +2,20 @@
 use Rattle.std.proofs.Common.{refl, inl, inr, ℕ, suc, Bool, true, false, List, [], ◌∷◌, ◌++◌, None, if◌then◌else◌}
 use Rattle.std.specs.Prelude.{flat_map, is_some, reverse}
 use Rattle.std.specs.List.{AllByRecursion}
-use Rattle.spark_base.specs.declared.position.Pos.{Pos}
-use Rattle.spark_base.specs.Lists.{Has}
+use Rattle.machine.specs.flow_paths.typed_tree.type_definitions.resolved_tree.spark_base.declared.position.Pos.{Pos}
+use Rattle.machine.specs.flow_paths.typed_tree.type_definitions.resolved_tree.spark_base.Lists.{Has}
 use Rattle.spark_base.proofs.Lists.{Has-append_left, Has-append_right, Has-append_cases, Has-filter}
-use Rattle.typed_tree.specs.Trees.{TypedTree, Name, Component, Designated, Element, Image, Parens, Unary, Binary, Short, IsNull, Aggregate, Alike, New, TypedCode, Declare, Assign, Skip, Output, Input, Release, If, Branch, Case, When, Loop, While, For, Exit, Return, Block}
-use Rattle.typed_tree.specs.Trees as typed
-use Rattle.typed_tree.specs.Programs.{TypedSub}
-use Rattle.flow_paths.specs.Instructions.{Instruction}
-use Rattle.flow_paths.specs.Instructions as instruction
-use Rattle.flow_paths.specs.Names.{has_call}
-use Rattle.flow_paths.specs.Objects.{has_scope_end}
-use Rattle.flow_paths.specs.Points.{Place, PointName, row_at, NamedPoint}
-use Rattle.flow_paths.specs.Prep.{Setting, with_held, prep}
-use Rattle.flow_paths.specs.Layout.{Around, within_loop, within_block, with_scope, declared, ending, ends, uses, uses_both, laid, laid_branches, laid_branch, laid_whens, laid_when}
-use Rattle.flow_paths.specs.Laid.{declared_within, around_body, scope_at_end, function_end, procedure_end, sub_points, elaboration_points}
+use Rattle.machine.specs.flow_paths.typed_tree.Trees.{TypedTree, Name, Component, Designated, Element, Image, Parens, Unary, Binary, Short, IsNull, Aggregate, Alike, New, TypedCode, Declare, Assign, Skip, Output, Input, Release, If, Branch, Case, When, Loop, While, For, Exit, Return, Block}
+use Rattle.machine.specs.flow_paths.typed_tree.Trees as typed
+use Rattle.machine.specs.flow_paths.typed_tree.Programs.{TypedSub}
+use Rattle.machine.specs.flow_paths.Instructions.{Instruction}
+use Rattle.machine.specs.flow_paths.Instructions as instruction
+use Rattle.machine.specs.flow_paths.Names.{has_call}
+use Rattle.machine.specs.flow_paths.Objects.{has_scope_end}
+use Rattle.machine.specs.flow_paths.Points.{Place, PointName, row_at, NamedPoint}
+use Rattle.machine.specs.flow_paths.Prep.{Setting, with_held, prep}
+use Rattle.machine.specs.flow_paths.Layout.{Around, within_loop, within_block, with_scope, declared, ending, ends, uses, uses_both, laid, laid_branches, laid_branch, laid_whens, laid_when}
+use Rattle.machine.specs.flow_paths.Laid.{declared_within, around_body, scope_at_end, function_end, procedure_end, sub_points, elaboration_points}
 use Rattle.settled_types.proofs.OrderLaws.ScopeLaws.Lists.{all_both, all_one, all_if, all_has, has_reverse}
 
 abbrev pub Begins : (ℕ → Type 0) → Instruction → Type 0

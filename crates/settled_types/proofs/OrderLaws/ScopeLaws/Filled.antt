@@ -3,22 +3,22 @@ use Rattle.std.proofs.Common.{◌≡◌, refl, sym, ap, ◌∙◌, subst, inl, i
 use Rattle.std.specs.Prelude.{Some, None, flat_map, drop, is_some}
 use Rattle.std.specs.List.{AllByRecursion, position_or_len}
 use Rattle.std.proofs.lemmas.Bool.{true≢false}
-use Rattle.spark_base.specs.declared.position.Pos.{Pos}
-use Rattle.spark_base.specs.Lists.{Has}
+use Rattle.machine.specs.flow_paths.typed_tree.type_definitions.resolved_tree.spark_base.declared.position.Pos.{Pos}
+use Rattle.machine.specs.flow_paths.typed_tree.type_definitions.resolved_tree.spark_base.Lists.{Has}
 use Rattle.spark_base.proofs.Lists.{Has-append_left, Has-append_right}
-use Rattle.typed_tree.specs.declared.object.Object.{Object}
-use Rattle.typed_tree.specs.Trees.{TypedTree, Name, Component, Designated, Element, Image, Parens, Unary, Binary, Short, IsNull, Aggregate, Alike, New, TypedCode, Declare, Assign, Skip, Output, Input, Release, If, Branch, Case, When, Loop, While, For, Exit, Return, Block}
-use Rattle.typed_tree.specs.Trees as typed
-use Rattle.typed_tree.specs.Programs.{TypedSub, text_io}
-use Rattle.flow_paths.specs.Instructions.{Instruction, Call, Evaluate, Finish}
-use Rattle.flow_paths.specs.Instructions as instruction
-use Rattle.flow_paths.specs.Objects.{Typing}
-use Rattle.flow_paths.specs.Names.{has_call}
-use Rattle.flow_paths.specs.Points.{Place, PointName, row_at, same_place, NamedPoint}
-use Rattle.flow_paths.specs.Prep.{Setting, prep}
-use Rattle.flow_paths.specs.Layout.{Around, within_loop, within_block, with_scope, declared, from, ending, ends, uses, choices_of, laid, laid_branches, laid_branch, laid_whens, laid_when}
-use Rattle.flow_paths.specs.Laid.{Temporary, temporary_object, filled, temporaries, numbers_from, unnumbered, around_body, scope_at_end, procedure_end, function_end, sub_points, sub_temporaries, NamedSub, named_sub, named_subs}
-use Rattle.flow_paths.specs.Scopes.{is_temporary}
+use Rattle.machine.specs.flow_paths.typed_tree.declared.object.Object.{Object}
+use Rattle.machine.specs.flow_paths.typed_tree.Trees.{TypedTree, Name, Component, Designated, Element, Image, Parens, Unary, Binary, Short, IsNull, Aggregate, Alike, New, TypedCode, Declare, Assign, Skip, Output, Input, Release, If, Branch, Case, When, Loop, While, For, Exit, Return, Block}
+use Rattle.machine.specs.flow_paths.typed_tree.Trees as typed
+use Rattle.machine.specs.flow_paths.typed_tree.Programs.{TypedSub, text_io}
+use Rattle.machine.specs.flow_paths.Instructions.{Instruction, Call, Evaluate, Finish}
+use Rattle.machine.specs.flow_paths.Instructions as instruction
+use Rattle.machine.specs.flow_paths.Objects.{Typing}
+use Rattle.machine.specs.flow_paths.Names.{has_call}
+use Rattle.machine.specs.flow_paths.Points.{Place, PointName, row_at, same_place, NamedPoint}
+use Rattle.machine.specs.flow_paths.Prep.{Setting, prep}
+use Rattle.machine.specs.flow_paths.Layout.{Around, within_loop, within_block, with_scope, declared, from, ending, ends, uses, choices_of, laid, laid_branches, laid_branch, laid_whens, laid_when}
+use Rattle.machine.specs.flow_paths.Laid.{Temporary, temporary_object, filled, temporaries, numbers_from, unnumbered, around_body, scope_at_end, procedure_end, function_end, sub_points, sub_temporaries, NamedSub, named_sub, named_subs}
+use Rattle.machine.specs.flow_paths.Scopes.{is_temporary}
 use Rattle.settled_types.specs.OrderLaws.ScopeLaws.Supplied.{FillsOne, IsFilling}
 use Rattle.settled_types.proofs.OrderLaws.ScopeLaws.Lists.{all_both}
 

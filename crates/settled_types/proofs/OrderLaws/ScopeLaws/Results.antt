@@ -4,17 +4,17 @@ use Rattle.std.specs.Prelude.{Some, None}
 use Rattle.std.specs.List.{position_or_len}
 use Rattle.std.specs.Cmp.Lexicographic.{pointwise_decides}
 use Rattle.std.proofs.lemmas.Bool.Decides.{Decides-eqb}
-use Rattle.spark_base.specs.Lists.{Has}
+use Rattle.machine.specs.flow_paths.typed_tree.type_definitions.resolved_tree.spark_base.Lists.{Has}
 use Rattle.spark_base.proofs.Lists.{Has-append_left, Has-append_right, Has-append_cases}
-use Rattle.type_definitions.specs.Entries.{boolean}
-use Rattle.typed_tree.specs.declared.object.Object.{Object}
-use Rattle.typed_tree.specs.Programs.{TypedSub, text_io}
-use Rattle.flow_paths.specs.Instructions.{Instruction, Call, Evaluate}
-use Rattle.flow_paths.specs.Objects.{Typing, sub_at}
-use Rattle.flow_paths.specs.Points.{Place, same_place, NamedPoint}
-use Rattle.flow_paths.specs.Prep.{Setting}
-use Rattle.flow_paths.specs.Laid.{Temporary, temporary_object, filled, temporaries, result_of, numbers_from, unnumbered, sub_points, sub_temporaries, NamedSub, named_subs}
-use Rattle.flow_paths.specs.Scopes.{Differ}
+use Rattle.machine.specs.flow_paths.typed_tree.type_definitions.Entries.{boolean}
+use Rattle.machine.specs.flow_paths.typed_tree.declared.object.Object.{Object}
+use Rattle.machine.specs.flow_paths.typed_tree.Programs.{TypedSub, text_io}
+use Rattle.machine.specs.flow_paths.Instructions.{Instruction, Call, Evaluate}
+use Rattle.machine.specs.flow_paths.Objects.{Typing, sub_at}
+use Rattle.machine.specs.flow_paths.Points.{Place, same_place, NamedPoint}
+use Rattle.machine.specs.flow_paths.Prep.{Setting}
+use Rattle.machine.specs.flow_paths.Laid.{Temporary, temporary_object, filled, temporaries, result_of, numbers_from, unnumbered, sub_points, sub_temporaries, NamedSub, named_subs}
+use Rattle.machine.specs.flow_paths.Scopes.{Differ}
 use Rattle.flow_paths.proofs.PointsDiffer.{points_differ}
 use Rattle.settled_types.proofs.OrderLaws.ScopeLaws.Lists.{all_has}
 use Rattle.settled_types.proofs.OrderLaws.ScopeLaws.Filled.{IsOwn, Owned, sub_walk, placed, temporaries_of}

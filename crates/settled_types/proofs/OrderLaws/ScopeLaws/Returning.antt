@@ -2,19 +2,19 @@
 use Rattle.std.proofs.Common.{◌≡◌, refl, sym, subst, inl, inr, ℕ, suc, ◌≤◌, Bool, true, false, List, [], ◌∷◌, ◌++◌, length, reverse, arith, if◌then◌else◌}
 use Rattle.std.specs.Prelude.{Some, None, flat_map, drop, is_some}
 use Rattle.std.specs.List.{AllByRecursion}
-use Rattle.spark_base.specs.declared.position.Pos.{Pos}
-use Rattle.spark_base.specs.Lists.{Has}
+use Rattle.machine.specs.flow_paths.typed_tree.type_definitions.resolved_tree.spark_base.declared.position.Pos.{Pos}
+use Rattle.machine.specs.flow_paths.typed_tree.type_definitions.resolved_tree.spark_base.Lists.{Has}
 use Rattle.spark_base.proofs.Lists.{Has-append_left, Has-append_right, Has-append_cases}
-use Rattle.typed_tree.specs.Trees.{TypedTree, Name, Component, Designated, Element, Image, Parens, Unary, Binary, Short, IsNull, Aggregate, Alike, New, TypedCode, Declare, Assign, Skip, Output, Input, Release, If, Branch, Case, When, Loop, While, For, Exit, Return, Block}
-use Rattle.typed_tree.specs.Trees as typed
-use Rattle.typed_tree.specs.Programs.{TypedSub}
-use Rattle.flow_paths.specs.Instructions.{Instruction, Evaluate, Finish}
-use Rattle.flow_paths.specs.Instructions as instruction
-use Rattle.flow_paths.specs.Names.{has_call, is_empty}
-use Rattle.flow_paths.specs.Points.{Place, PointName, row_at, NamedPoint, point, entry}
-use Rattle.flow_paths.specs.Prep.{Setting, with_held, prep}
-use Rattle.flow_paths.specs.Layout.{Around, within_loop, within_block, with_scope, declared, from, ending, ends, closing, uses, unless_empty, choices_of, laid, laid_branches, laid_branch, laid_whens, laid_when}
-use Rattle.flow_paths.specs.Laid.{around_body, function_end, procedure_end, body_points, sub_points}
+use Rattle.machine.specs.flow_paths.typed_tree.Trees.{TypedTree, Name, Component, Designated, Element, Image, Parens, Unary, Binary, Short, IsNull, Aggregate, Alike, New, TypedCode, Declare, Assign, Skip, Output, Input, Release, If, Branch, Case, When, Loop, While, For, Exit, Return, Block}
+use Rattle.machine.specs.flow_paths.typed_tree.Trees as typed
+use Rattle.machine.specs.flow_paths.typed_tree.Programs.{TypedSub}
+use Rattle.machine.specs.flow_paths.Instructions.{Instruction, Evaluate, Finish}
+use Rattle.machine.specs.flow_paths.Instructions as instruction
+use Rattle.machine.specs.flow_paths.Names.{has_call, is_empty}
+use Rattle.machine.specs.flow_paths.Points.{Place, PointName, row_at, NamedPoint, point, entry}
+use Rattle.machine.specs.flow_paths.Prep.{Setting, with_held, prep}
+use Rattle.machine.specs.flow_paths.Layout.{Around, within_loop, within_block, with_scope, declared, from, ending, ends, closing, uses, unless_empty, choices_of, laid, laid_branches, laid_branch, laid_whens, laid_when}
+use Rattle.machine.specs.flow_paths.Laid.{around_body, function_end, procedure_end, body_points, sub_points}
 use Rattle.settled_types.specs.OrderLaws.ScopeLaws.Returning.{is_return, is_finish, IsReturned, IsOpen, All, Stands, StartsAtZero, returns, closes, goes}
 use Rattle.settled_types.proofs.OrderLaws.ScopeLaws.Lists.{all_both}
 

@@ -3,11 +3,11 @@ use Rattle.std.proofs.Common.{◌≡◌, refl, ℕ, zero, suc, Bool, true, false
 use Rattle.std.specs.Prelude.{drop}
 use Rattle.std.specs.List.{AllByRecursion}
 use Rattle.std.proofs.lemmas.Bool.{false≢true}
-use Rattle.typed_tree.specs.Programs.{TypedSub}
-use Rattle.flow_paths.specs.Points.{NamedPoint}
-use Rattle.flow_paths.specs.Prep.{Setting}
-use Rattle.flow_paths.specs.Laid.{sub_points, elaboration_points}
-use Rattle.flow_paths.specs.Scopes.{is_within, taken}
+use Rattle.machine.specs.flow_paths.typed_tree.Programs.{TypedSub}
+use Rattle.machine.specs.flow_paths.Points.{NamedPoint}
+use Rattle.machine.specs.flow_paths.Prep.{Setting}
+use Rattle.machine.specs.flow_paths.Laid.{sub_points, elaboration_points}
+use Rattle.machine.specs.flow_paths.Scopes.{is_within, taken}
 use Rattle.settled_types.specs.OrderLaws.ScopeLaws.Code.{are_seen, body_seen}
 use Rattle.settled_types.specs.OrderLaws.ScopeLaws.Order.{named_in, IsSeen}
 use Rattle.settled_types.specs.OrderLaws.ScopeLaws.Supplied.{IsLeft}

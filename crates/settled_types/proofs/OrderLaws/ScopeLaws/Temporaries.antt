@@ -3,18 +3,18 @@
 use Rattle.std.proofs.Common.{◌≡◌, refl, sym, ap, ◌∙◌, subst, inl, inr, ℕ, ◌+◌, ◌<◌, ◌≤◌, Bool, true, false, not, ◌&&◌, ◌||◌, List, [], ◌∷◌, ◌++◌, map, length}
 use Rattle.std.specs.List.{AllByRecursion}
 use Rattle.std.proofs.lemmas.Bool.{false≢true}
-use Rattle.spark_base.specs.Lists.{Has}
+use Rattle.machine.specs.flow_paths.typed_tree.type_definitions.resolved_tree.spark_base.Lists.{Has}
 use Rattle.spark_base.proofs.Lists.{Has-append_right, Has-append_cases}
-use Rattle.type_definitions.specs.Types.{Table}
-use Rattle.typed_tree.specs.declared.object.Object.{Object}
-use Rattle.typed_tree.specs.Trees.{TypedCode, Declare, If, Branch, Case, When, Loop, While, For, Block, More}
-use Rattle.typed_tree.specs.Programs.{TypedSub, TypedProgram, text_io}
-use Rattle.type_definitions.specs.Types.{full, is_owning}
-use Rattle.flow_paths.specs.Objects.{Typing, object_at, is_anonymous, has_scope_end}
-use Rattle.flow_paths.specs.Points.{Place}
-use Rattle.flow_paths.specs.Prep.{Setting}
-use Rattle.flow_paths.specs.Laid.{all_named, temporary_object, declared_within, numbers_from, unnumbered, elaboration_points, sub_temporaries, NamedSub, named_subs, typing_of, flow_typing, flow_program, flow_named}
-use Rattle.flow_paths.specs.Scopes.{Differ, ScopesHold, is_temporary, is_declaration, is_undeclaring, is_settled}
+use Rattle.machine.specs.flow_paths.typed_tree.type_definitions.Types.{Table}
+use Rattle.machine.specs.flow_paths.typed_tree.declared.object.Object.{Object}
+use Rattle.machine.specs.flow_paths.typed_tree.Trees.{TypedCode, Declare, If, Branch, Case, When, Loop, While, For, Block, More}
+use Rattle.machine.specs.flow_paths.typed_tree.Programs.{TypedSub, TypedProgram, text_io}
+use Rattle.machine.specs.flow_paths.typed_tree.type_definitions.Types.{full, is_owning}
+use Rattle.machine.specs.flow_paths.Objects.{Typing, object_at, is_anonymous, has_scope_end}
+use Rattle.machine.specs.flow_paths.Points.{Place}
+use Rattle.machine.specs.flow_paths.Prep.{Setting}
+use Rattle.machine.specs.flow_paths.Laid.{all_named, temporary_object, declared_within, numbers_from, unnumbered, elaboration_points, sub_temporaries, NamedSub, named_subs, typing_of, flow_typing, flow_program, flow_named}
+use Rattle.machine.specs.flow_paths.Scopes.{Differ, ScopesHold, is_temporary, is_declaration, is_undeclaring, is_settled}
 use Rattle.flow_paths.proofs.PointsDiffer.{points_differ, package_points_differ}
 use Rattle.flow_paths.proofs.ScopesHold.{scopes_hold, package_scopes_hold}
 use Rattle.settled_types.specs.OrderLaws.ScopeLaws.Code.{objects_of}

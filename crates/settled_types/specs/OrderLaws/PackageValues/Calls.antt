@@ -1,7 +1,7 @@
 -- Code that declares objects with values that call no function.
 use Rattle.std.specs.Prelude.{Bool, true, not, ◌&&◌}
-use Rattle.typed_tree.specs.Trees.{TypedCode, Declare, More}
-use Rattle.flow_paths.specs.Names.{has_call}
+use Rattle.machine.specs.flow_paths.typed_tree.Trees.{TypedCode, Declare, More}
+use Rattle.machine.specs.flow_paths.Names.{has_call}
 
 -- No initial value calls a function of the program.
 unfoldable pub calls_nothing : TypedCode → Bool

@@ -2,16 +2,16 @@
 -- points, paths or facts.
 use Rattle.std.specs.Prelude.{◌≡◌, ℕ, suc, ◌≤◌, ◌<◌, Bool, true, false, not, ◌&&◌, List, ◌∷◌, ◌++◌, flat_map, length, Option, Some, None, is_some}
 use Rattle.std.specs.List.{list_all}
-use Rattle.spark_base.specs.Lists.{Has}
-use Rattle.type_definitions.specs.Types.{Table, full, is_scalar, is_owning}
-use Rattle.typed_tree.specs.Trees.{TypedTree, TypedCode}
-use Rattle.typed_tree.specs.Trees as typed
-use Rattle.typed_tree.specs.Programs.{TypedSub, TypedProgram}
-use Rattle.flow_paths.specs.Objects.{Typing, object_at, is_formal, is_package_object}
-use Rattle.flow_paths.specs.Instructions.{Call}
-use Rattle.flow_paths.specs.Points.{NamedPoint, FlowPoint}
-use Rattle.flow_paths.specs.Laid.{FlowSub, FlowProgram, unnumbered, elaboration_points, typing_of, flow_typing, flow_program}
-use Rattle.flow_paths.specs.Scopes.{is_settled, is_temporary}
+use Rattle.machine.specs.flow_paths.typed_tree.type_definitions.resolved_tree.spark_base.Lists.{Has}
+use Rattle.machine.specs.flow_paths.typed_tree.type_definitions.Types.{Table, full, is_scalar, is_owning}
+use Rattle.machine.specs.flow_paths.typed_tree.Trees.{TypedTree, TypedCode}
+use Rattle.machine.specs.flow_paths.typed_tree.Trees as typed
+use Rattle.machine.specs.flow_paths.typed_tree.Programs.{TypedSub, TypedProgram}
+use Rattle.machine.specs.flow_paths.Objects.{Typing, object_at, is_formal, is_package_object}
+use Rattle.machine.specs.flow_paths.Instructions.{Call}
+use Rattle.machine.specs.flow_paths.Points.{NamedPoint, FlowPoint}
+use Rattle.machine.specs.flow_paths.Laid.{FlowSub, FlowProgram, unnumbered, elaboration_points, typing_of, flow_typing, flow_program}
+use Rattle.machine.specs.flow_paths.Scopes.{is_settled, is_temporary}
 use Rattle.machine.specs.States.{sub_of}
 use Rattle.soundness.specs.Sound.{calls_procedures}
 use Rattle.soundness.specs.Ready.{AreActuals}

@@ -1,9 +1,9 @@
 -- What holds of the points of a subprogram.
 use Rattle.std.specs.Prelude.{◌≡◌, ℕ, Bool, true, List, [], ◌++◌, length}
-use Rattle.typed_tree.specs.Trees.{TypedTree}
-use Rattle.flow_paths.specs.Instructions.{Instruction, Declare, Assign, Call, Output, Input, Release, Test, Choose, Start, Evaluate, LeaveLoop, Hold, EndScope, Finish}
-use Rattle.flow_paths.specs.Points.{NamedPoint}
-use Rattle.flow_paths.specs.Scopes.{is_ready}
+use Rattle.machine.specs.flow_paths.typed_tree.Trees.{TypedTree}
+use Rattle.machine.specs.flow_paths.Instructions.{Instruction, Declare, Assign, Call, Output, Input, Release, Test, Choose, Start, Evaluate, LeaveLoop, Hold, EndScope, Finish}
+use Rattle.machine.specs.flow_paths.Points.{NamedPoint}
+use Rattle.machine.specs.flow_paths.Scopes.{is_ready}
 use Rattle.machine.specs.Typed.{successors}
 use Rattle.settled_types.specs.OrderLaws.ScopeLaws.Code.{roots, are_seen}
 

@@ -1,8 +1,8 @@
 -- What follows a return: the ends of scopes and the end of the call, and nothing else leads there.
 use Rattle.std.specs.Prelude.{◌≡◌, ◌⊎◌, ℕ, ◌≤◌, Bool, true, false, List, [], ◌∷◌}
-use Rattle.spark_base.specs.Lists.{Has}
-use Rattle.flow_paths.specs.Instructions.{Instruction, Hold, EndScope, Finish}
-use Rattle.flow_paths.specs.Points.{PointName, row_at, NamedPoint}
+use Rattle.machine.specs.flow_paths.typed_tree.type_definitions.resolved_tree.spark_base.Lists.{Has}
+use Rattle.machine.specs.flow_paths.Instructions.{Instruction, Hold, EndScope, Finish}
+use Rattle.machine.specs.flow_paths.Points.{PointName, row_at, NamedPoint}
 
 abbrev pub is_return : Instruction → Bool
 is_return (Hold v) = true

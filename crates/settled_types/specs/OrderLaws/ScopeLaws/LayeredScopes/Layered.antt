@@ -1,14 +1,14 @@
 -- Code in which older objects stand around younger ones.
 use Rattle.std.specs.Prelude.{ℕ, Bool, true, not, ◌&&◌, ◌==◌, List, ◌∷◌, ◌++◌, reverse, nat_lt}
 use Rattle.std.specs.List.{list_all}
-use Rattle.typed_tree.specs.Trees.{TypedCode}
-use Rattle.typed_tree.specs.Trees as typed
-use Rattle.typed_tree.specs.Programs.{TypedSub}
-use Rattle.flow_paths.specs.Instructions.{Instruction}
-use Rattle.flow_paths.specs.Instructions as instruction
-use Rattle.flow_paths.specs.Objects.{Typing, is_observer}
-use Rattle.flow_paths.specs.Views.{encloses, scope_of}
-use Rattle.flow_paths.specs.Layout.{declared}
+use Rattle.machine.specs.flow_paths.typed_tree.Trees.{TypedCode}
+use Rattle.machine.specs.flow_paths.typed_tree.Trees as typed
+use Rattle.machine.specs.flow_paths.typed_tree.Programs.{TypedSub}
+use Rattle.machine.specs.flow_paths.Instructions.{Instruction}
+use Rattle.machine.specs.flow_paths.Instructions as instruction
+use Rattle.machine.specs.flow_paths.Objects.{Typing, is_observer}
+use Rattle.machine.specs.flow_paths.Views.{encloses, scope_of}
+use Rattle.machine.specs.flow_paths.Layout.{declared}
 
 -- Object y was declared before x, in a scope that encloses that of x.
 abbrev pub is_older : Typing → List ℕ → ℕ → ℕ → Bool

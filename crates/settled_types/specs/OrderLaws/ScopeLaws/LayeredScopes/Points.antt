@@ -1,12 +1,12 @@
 -- What holds of the points of layered code.
 use Rattle.std.specs.Prelude.{◌≡◌, ℕ, Bool, true, List, [], ◌∷◌, drop}
-use Rattle.spark_base.specs.Lists.{Has}
-use Rattle.typed_tree.specs.Trees.{TypedTree}
-use Rattle.flow_paths.specs.Instructions.{Instruction, Declare, Assign, EndScope}
-use Rattle.flow_paths.specs.Objects.{Typing, is_observer}
-use Rattle.flow_paths.specs.Points.{PointName, NamedPoint}
-use Rattle.flow_paths.specs.Scopes.{taken}
-use Rattle.flow_paths.specs.Views.{scope_of}
+use Rattle.machine.specs.flow_paths.typed_tree.type_definitions.resolved_tree.spark_base.Lists.{Has}
+use Rattle.machine.specs.flow_paths.typed_tree.Trees.{TypedTree}
+use Rattle.machine.specs.flow_paths.Instructions.{Instruction, Declare, Assign, EndScope}
+use Rattle.machine.specs.flow_paths.Objects.{Typing, is_observer}
+use Rattle.machine.specs.flow_paths.Points.{PointName, NamedPoint}
+use Rattle.machine.specs.flow_paths.Scopes.{taken}
+use Rattle.machine.specs.flow_paths.Views.{scope_of}
 
 -- What is in scope where an object is declared, but for the temporaries that its value is taken from,
 -- is older; so is what else is in scope where its scope ends. Declarations and assignments fit.
