@@ -1,16 +1,16 @@
 -- A small program in order; and one that declares a number twice, has no fault of typing, and has a type
 -- in itself.
 use Rattle.std.proofs.Common.{◌≡◌, ◌≤◌, ◌<◌, inl, inr, ℕ, Bool, true, false, ◌||◌, List, [], ◌∷◌, arith, refl, sym, ap, ◌∙◌, nat_eq, Some, None, true≢false}
-use Rattle.machine.specs.flow_paths.typed_tree.type_definitions.resolved_tree.spark_base.declared.position.Pos.{Pos}
-use Rattle.machine.specs.flow_paths.typed_tree.type_definitions.resolved_tree.spark_base.Lists.{Has}
-use Rattle.machine.specs.flow_paths.typed_tree.type_definitions.resolved_tree.declared.node.Mark.{Mark}
-use Rattle.machine.specs.flow_paths.typed_tree.type_definitions.resolved_tree.Trees.{NoMore, More, Code, Declared, Record, Components, Access, Incomplete, Private, TypeDecl, Package, Program}
-use Rattle.machine.specs.flow_paths.typed_tree.type_definitions.Gathered.{gather}
-use Rattle.machine.specs.flow_paths.typed_tree.type_definitions.Entries.{is_complete}
-use Rattle.machine.specs.flow_paths.typed_tree.type_definitions.Faults.{is_before}
-use Rattle.machine.specs.flow_paths.typed_tree.type_definitions.Whole.{known_of, type_fault, type_sizes, all_made, made, sentence_faults}
-use Rattle.machine.specs.flow_paths.typed_tree.type_definitions.Declarations.{code_faults, some_part}
-use Rattle.machine.specs.flow_paths.typed_tree.type_definitions.Types.{words, words_within, words_of, shape_of, parts, parts_within}
+use Rattle.machine.specs.spark_base.declared.position.Pos.{Pos}
+use Rattle.machine.specs.spark_base.Lists.{Has}
+use Rattle.machine.specs.resolved_tree.declared.node.Mark.{Mark}
+use Rattle.machine.specs.resolved_tree.Trees.{NoMore, More, Code, Declared, Record, Components, Access, Incomplete, Private, TypeDecl, Package, Program}
+use Rattle.machine.specs.type_definitions.Gathered.{gather}
+use Rattle.machine.specs.type_definitions.Entries.{is_complete}
+use Rattle.machine.specs.type_definitions.Faults.{is_before}
+use Rattle.machine.specs.type_definitions.Whole.{known_of, type_fault, type_sizes, all_made, made, sentence_faults}
+use Rattle.machine.specs.type_definitions.Declarations.{code_faults, some_part}
+use Rattle.machine.specs.type_definitions.Types.{words, words_within, words_of, shape_of, parts, parts_within}
 use Rattle.type_settled.specs.Rings.{Inside, here, deeper}
 use Rattle.settled_types.specs.Orderly.{Past, at_start, with_incomplete, with_private, with_defined, within, IsNew, IsOrderly, Orderly, past_after}
 

@@ -1,21 +1,21 @@
 -- In a program without a fault of typing, the full types of private types don't have themselves in them.
 use Rattle.std.proofs.Common.{◌≡◌, ℕ, Bool, true, false, not, ◌||◌, ◌&&◌, IsTrue, arith, List, [], ◌∷◌, ◌++◌, refl, sym, Option, Some, None, is_some, is_none, true≢false, if◌then◌else◌, ap}
 use Rattle.std.specs.Prelude.{flat_map}
-use Rattle.machine.specs.flow_paths.typed_tree.type_definitions.resolved_tree.spark_base.declared.position.Pos.{Pos}
-use Rattle.machine.specs.flow_paths.typed_tree.type_definitions.resolved_tree.declared.node.Mark.{Mark}
-use Rattle.machine.specs.flow_paths.typed_tree.type_definitions.resolved_tree.Trees.{Code, NoMore, More, Record, Components, Array, TypeDecl, Subtype, ConstrainedSubtype, SubBody, Package, PackageBody, If, Branch, Case, When, Loop, While, For, Block, Program, code_items}
-use Rattle.machine.specs.flow_paths.typed_tree.type_definitions.declared.judgement.Fault.{Fault}
-use Rattle.machine.specs.flow_paths.typed_tree.type_definitions.declared.judgement.Where.TheVariants as stands
-use Rattle.machine.specs.flow_paths.typed_tree.type_definitions.declared.table.Known.{Known}
-use Rattle.machine.specs.flow_paths.typed_tree.type_definitions.Types.{info, full, is_scalar, has_value}
-use Rattle.machine.specs.flow_paths.typed_tree.type_definitions.Faults.{demand, noted, first, precedes}
-use Rattle.machine.specs.flow_paths.typed_tree.type_definitions.Entries.{boolean, denotes_type, marked, is_complete}
-use Rattle.machine.specs.flow_paths.typed_tree.type_definitions.Names.{Context, seen}
-use Rattle.machine.specs.flow_paths.typed_tree.type_definitions.Expressions.{faults, own_type, mark_faults}
-use Rattle.machine.specs.flow_paths.typed_tree.type_definitions.Statements.{is_one_choice, coverage, type_or_integer, range_faults, scalar_mark}
-use Rattle.machine.specs.flow_paths.typed_tree.type_definitions.Gathered.{declared_number, declared_pos, in_visible, in_hidden}
-use Rattle.machine.specs.flow_paths.typed_tree.type_definitions.Declarations.{holds_itself, definition_faults, components_faults, record_faults, index_range, bound_faults, constraint_faults, body_faults, in_body, in_loop, selector_faults, choices_of, choices_faults, is_last, code_faults, alternatives_faults, alternative_faults}
-use Rattle.machine.specs.flow_paths.typed_tree.type_definitions.Whole.{TypeFault, told, decided, fault_known, type_fault, type_sizes, sentence_faults, unit_faults, main_faults, known_of, known_with, outside}
+use Rattle.machine.specs.spark_base.declared.position.Pos.{Pos}
+use Rattle.machine.specs.resolved_tree.declared.node.Mark.{Mark}
+use Rattle.machine.specs.resolved_tree.Trees.{Code, NoMore, More, Record, Components, Array, TypeDecl, Subtype, ConstrainedSubtype, SubBody, Package, PackageBody, If, Branch, Case, When, Loop, While, For, Block, Program, code_items}
+use Rattle.machine.specs.type_definitions.declared.judgement.Fault.{Fault}
+use Rattle.machine.specs.type_definitions.declared.judgement.Where.TheVariants as stands
+use Rattle.machine.specs.type_definitions.declared.table.Known.{Known}
+use Rattle.machine.specs.type_definitions.Types.{info, full, is_scalar, has_value}
+use Rattle.machine.specs.type_definitions.Faults.{demand, noted, first, precedes}
+use Rattle.machine.specs.type_definitions.Entries.{boolean, denotes_type, marked, is_complete}
+use Rattle.machine.specs.type_definitions.Names.{Context, seen}
+use Rattle.machine.specs.type_definitions.Expressions.{faults, own_type, mark_faults}
+use Rattle.machine.specs.type_definitions.Statements.{is_one_choice, coverage, type_or_integer, range_faults, scalar_mark}
+use Rattle.machine.specs.type_definitions.Gathered.{declared_number, declared_pos, in_visible, in_hidden}
+use Rattle.machine.specs.type_definitions.Declarations.{holds_itself, definition_faults, components_faults, record_faults, index_range, bound_faults, constraint_faults, body_faults, in_body, in_loop, selector_faults, choices_of, choices_faults, is_last, code_faults, alternatives_faults, alternative_faults}
+use Rattle.machine.specs.type_definitions.Whole.{TypeFault, told, decided, fault_known, type_fault, type_sizes, sentence_faults, unit_faults, main_faults, known_of, known_with, outside}
 use Rattle.type_sizes.specs.Formed.{is_formed, are_alternatives, is_alternative, all_formed}
 use Rattle.settled_types.specs.Stamped.{IsAfterEnd, IsGroupAfter, AreGroupsAfter, ArePartsAfter, Opens, AllOpen}
 

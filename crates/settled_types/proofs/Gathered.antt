@@ -1,27 +1,27 @@
 -- What a turn over the text of a program in order does to what is known: definitions, and all of the code.
 use Rattle.std.proofs.Common.{◌≡◌, ◌⊎◌, inl, inr, ℕ, zero, suc, ◌<◌, ◌≤◌, Bool, true, false, not, ◌||◌, List, [], ◌∷◌, ◌++◌, refl, sym, ap, ◌∙◌, arith, nat_eq, set, Option, Some, None, is_some, true≢false, subst, if◌then◌else◌}
 use Rattle.std.specs.Prelude.{slice_get, ℤ}
-use Rattle.machine.specs.flow_paths.typed_tree.type_definitions.resolved_tree.spark_base.declared.position.Pos.{Pos}
-use Rattle.machine.specs.flow_paths.typed_tree.type_definitions.resolved_tree.spark_base.Lists.{Has}
-use Rattle.machine.specs.flow_paths.typed_tree.type_definitions.resolved_tree.declared.node.Mark.{Mark}
-use Rattle.machine.specs.flow_paths.typed_tree.type_definitions.resolved_tree.Trees.{More, Code, Enumeration, Record, Components, Array, Access, Incomplete, Private, TypeDecl, Subtype, ConstrainedSubtype, Objects, Numbers, Instance, SubDecl, SubBody, Package, PackageBody, If, Branch, Case, When, Loop, While, For, Block}
-use Rattle.machine.specs.flow_paths.typed_tree.type_definitions.declared.table.Component.{Component}
-use Rattle.machine.specs.flow_paths.typed_tree.type_definitions.declared.table.Info.{Info}
-use Rattle.machine.specs.flow_paths.typed_tree.type_definitions.declared.table.Known.{Known}
-use Rattle.machine.specs.flow_paths.typed_tree.type_definitions.declared.table.Entry.{Entry}
-use Rattle.machine.specs.flow_paths.typed_tree.type_definitions.declared.table.Entry.TheVariants as entry
-use Rattle.machine.specs.flow_paths.typed_tree.type_definitions.declared.table.Kind.TheVariants as kind
-use Rattle.machine.specs.flow_paths.typed_tree.type_definitions.declared.table.Shape.{Shape}
-use Rattle.machine.specs.flow_paths.typed_tree.type_definitions.declared.table.Shape.TheVariants as shape
-use Rattle.machine.specs.flow_paths.typed_tree.type_definitions.declared.judgement.View.{View}
-use Rattle.machine.specs.flow_paths.typed_tree.type_definitions.declared.judgement.View.TheVariants as view
-use Rattle.machine.specs.flow_paths.typed_tree.type_definitions.Types.{Table, info, info_found, full, base, same_as, shape_found, untyped}
-use Rattle.machine.specs.flow_paths.typed_tree.type_definitions.Entries.{entry_of, is_type, is_complete, complete_at, marked, type_of_mark, type_of_entry}
-use Rattle.machine.specs.flow_paths.typed_tree.type_definitions.Faults.{is_before}
-use Rattle.machine.specs.flow_paths.typed_tree.type_definitions.Names.{Context}
-use Rattle.machine.specs.flow_paths.typed_tree.type_definitions.Declarations.{any_of, holds_shape}
-use Rattle.machine.specs.flow_paths.typed_tree.type_definitions.Gathered.{completion, with_type, with_entry, full_info, subtype_info, meant_by, constrained_shape, bound_pair, component_group, component_groups, component_list, defined, with_object, with_number, with_body_front, with_definition, constant_value, initial_value, plain_object, parameter_type, instance_type, is_subprogram, front_number, is_asked, are_static_bounds, declared_number, declared_pos, in_subprogram, in_visible, in_hidden, gather}
-use Rattle.machine.specs.flow_paths.typed_tree.type_definitions.Whole.{predefined_types}
+use Rattle.machine.specs.spark_base.declared.position.Pos.{Pos}
+use Rattle.machine.specs.spark_base.Lists.{Has}
+use Rattle.machine.specs.resolved_tree.declared.node.Mark.{Mark}
+use Rattle.machine.specs.resolved_tree.Trees.{More, Code, Enumeration, Record, Components, Array, Access, Incomplete, Private, TypeDecl, Subtype, ConstrainedSubtype, Objects, Numbers, Instance, SubDecl, SubBody, Package, PackageBody, If, Branch, Case, When, Loop, While, For, Block}
+use Rattle.machine.specs.type_definitions.declared.table.Component.{Component}
+use Rattle.machine.specs.type_definitions.declared.table.Info.{Info}
+use Rattle.machine.specs.type_definitions.declared.table.Known.{Known}
+use Rattle.machine.specs.type_definitions.declared.table.Entry.{Entry}
+use Rattle.machine.specs.type_definitions.declared.table.Entry.TheVariants as entry
+use Rattle.machine.specs.type_definitions.declared.table.Kind.TheVariants as kind
+use Rattle.machine.specs.type_definitions.declared.table.Shape.{Shape}
+use Rattle.machine.specs.type_definitions.declared.table.Shape.TheVariants as shape
+use Rattle.machine.specs.type_definitions.declared.judgement.View.{View}
+use Rattle.machine.specs.type_definitions.declared.judgement.View.TheVariants as view
+use Rattle.machine.specs.type_definitions.Types.{Table, info, info_found, full, base, same_as, shape_found, untyped}
+use Rattle.machine.specs.type_definitions.Entries.{entry_of, is_type, is_complete, complete_at, marked, type_of_mark, type_of_entry}
+use Rattle.machine.specs.type_definitions.Faults.{is_before}
+use Rattle.machine.specs.type_definitions.Names.{Context}
+use Rattle.machine.specs.type_definitions.Declarations.{any_of, holds_shape}
+use Rattle.machine.specs.type_definitions.Gathered.{completion, with_type, with_entry, full_info, subtype_info, meant_by, constrained_shape, bound_pair, component_group, component_groups, component_list, defined, with_object, with_number, with_body_front, with_definition, constant_value, initial_value, plain_object, parameter_type, instance_type, is_subprogram, front_number, is_asked, are_static_bounds, declared_number, declared_pos, in_subprogram, in_visible, in_hidden, gather}
+use Rattle.machine.specs.type_definitions.Whole.{predefined_types}
 use Rattle.type_settled.specs.Rings.{IsPart}
 use Rattle.settled_types.specs.Wholes.{written}
 use Rattle.settled_types.specs.Orderly.{Past, without, with_defined, within, group_marks, list_marks, definition_marks, past_after, IsNew, Completes, Orderly}

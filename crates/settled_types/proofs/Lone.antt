@@ -1,7 +1,7 @@
 -- Types that are made of types that were defined before them, or of private types that don't have themselves
 -- in them, don't have themselves in them.
 use Rattle.std.proofs.Common.{◌≡◌, ◌⊎◌, inl, inr, ℕ, ◌<◌, true, refl, sym, ◌∙◌, arith, is_some, true≢false, subst}
-use Rattle.machine.specs.flow_paths.typed_tree.type_definitions.Types.{Table, info, base}
+use Rattle.machine.specs.type_definitions.Types.{Table, info, base}
 use Rattle.type_settled.specs.Rings.{IsPart, Inside, here, deeper}
 use Rattle.type_settled.proofs.Inside.{inside_all, inside_itself}
 use Rattle.settled_types.specs.Stamped.{IsOpen}

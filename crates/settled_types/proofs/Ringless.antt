@@ -3,12 +3,12 @@ use Rattle.std.proofs.Common.{◌≡◌, ◌⊎◌, inl, inr, ℕ, zero, suc, �
 use Rattle.std.specs.Prelude.{slice_get}
 use Rattle.std.proofs.lemmas.Bool.{cases_lt}
 use Rattle.std.proofs.lemmas.Option.{slice_get_past}
-use Rattle.machine.specs.flow_paths.typed_tree.type_definitions.declared.table.Component.{Component}
-use Rattle.machine.specs.flow_paths.typed_tree.type_definitions.declared.table.Info.{Info}
-use Rattle.machine.specs.flow_paths.typed_tree.type_definitions.declared.table.Shape.{Shape}
-use Rattle.machine.specs.flow_paths.typed_tree.type_definitions.declared.table.Shape.TheVariants as shape
-use Rattle.machine.specs.flow_paths.typed_tree.type_definitions.Types.{Table, info, info_found, shape_found}
-use Rattle.machine.specs.flow_paths.typed_tree.type_definitions.Declarations.{any_of, holds_shape, holds_parent}
+use Rattle.machine.specs.type_definitions.declared.table.Component.{Component}
+use Rattle.machine.specs.type_definitions.declared.table.Info.{Info}
+use Rattle.machine.specs.type_definitions.declared.table.Shape.{Shape}
+use Rattle.machine.specs.type_definitions.declared.table.Shape.TheVariants as shape
+use Rattle.machine.specs.type_definitions.Types.{Table, info, info_found, shape_found}
+use Rattle.machine.specs.type_definitions.Declarations.{any_of, holds_shape, holds_parent}
 use Rattle.type_settled.specs.Orders.{all_ready, shape_ready}
 use Rattle.type_settled.specs.Reach.{holds, has_some}
 use Rattle.type_settled.specs.Rings.{IsPart, Inside, here, deeper}

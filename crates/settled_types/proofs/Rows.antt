@@ -3,16 +3,16 @@ use Rattle.std.proofs.Common.{◌≡◌, ◌⊎◌, inl, inr, ℕ, zero, suc, �
 use Rattle.std.specs.Prelude.{slice_get}
 use Rattle.std.proofs.lemmas.Bool.{cases_eq, cases_lt}
 use Rattle.std.proofs.lemmas.List.{get_or-set_same, get_or-set_other, set_past, length-set}
-use Rattle.machine.specs.flow_paths.typed_tree.type_definitions.resolved_tree.spark_base.declared.position.Pos.{Pos}
-use Rattle.machine.specs.flow_paths.typed_tree.type_definitions.resolved_tree.spark_base.Lists.{Has}
-use Rattle.machine.specs.flow_paths.typed_tree.type_definitions.declared.table.Info.{Info}
-use Rattle.machine.specs.flow_paths.typed_tree.type_definitions.declared.table.Shape.TheVariants as shape
-use Rattle.machine.specs.flow_paths.typed_tree.type_definitions.declared.table.Known.{Known}
-use Rattle.machine.specs.flow_paths.typed_tree.type_definitions.declared.table.Entry.{Entry}
-use Rattle.machine.specs.flow_paths.typed_tree.type_definitions.declared.table.Entry.TheVariants as entry
-use Rattle.machine.specs.flow_paths.typed_tree.type_definitions.Types.{Table, info, info_found, base, base_found, shape_found}
-use Rattle.machine.specs.flow_paths.typed_tree.type_definitions.Entries.{entry_of}
-use Rattle.machine.specs.flow_paths.typed_tree.type_definitions.Declarations.{holds_shape, holds_parent}
+use Rattle.machine.specs.spark_base.declared.position.Pos.{Pos}
+use Rattle.machine.specs.spark_base.Lists.{Has}
+use Rattle.machine.specs.type_definitions.declared.table.Info.{Info}
+use Rattle.machine.specs.type_definitions.declared.table.Shape.TheVariants as shape
+use Rattle.machine.specs.type_definitions.declared.table.Known.{Known}
+use Rattle.machine.specs.type_definitions.declared.table.Entry.{Entry}
+use Rattle.machine.specs.type_definitions.declared.table.Entry.TheVariants as entry
+use Rattle.machine.specs.type_definitions.Types.{Table, info, info_found, base, base_found, shape_found}
+use Rattle.machine.specs.type_definitions.Entries.{entry_of}
+use Rattle.machine.specs.type_definitions.Declarations.{holds_shape, holds_parent}
 use Rattle.type_settled.specs.Reach.{holds}
 use Rattle.type_settled.specs.Rings.{IsPart}
 use Rattle.settled_types.specs.Wholes.{written}

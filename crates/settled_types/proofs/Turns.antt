@@ -1,21 +1,21 @@
 -- What a part of the text does to what is known, in one turn, and parts one after the other.
 use Rattle.std.proofs.Common.{◌≡◌, inl, inr, ℕ, ◌+◌, ◌≤◌, Bool, true, false, List, ◌∷◌, ◌⊎◌, refl, sym, ap, ◌∙◌, Option, None, Some, is_some, nat_eq, true≢false, subst, if◌then◌else◌}
 use Rattle.std.specs.Prelude.{slice_get}
-use Rattle.machine.specs.flow_paths.typed_tree.type_definitions.resolved_tree.spark_base.declared.position.Pos.{Pos}
-use Rattle.machine.specs.flow_paths.typed_tree.type_definitions.resolved_tree.spark_base.Lists.{Has}
-use Rattle.machine.specs.flow_paths.typed_tree.type_definitions.resolved_tree.Trees.{More, Code, Anonymous, Enumeration, Formals, Front}
-use Rattle.machine.specs.flow_paths.typed_tree.type_definitions.declared.table.Info.{Info}
-use Rattle.machine.specs.flow_paths.typed_tree.type_definitions.declared.table.InitialValue.{InitialValue}
-use Rattle.machine.specs.flow_paths.typed_tree.type_definitions.declared.table.Known.{Known}
-use Rattle.machine.specs.flow_paths.typed_tree.type_definitions.declared.table.Kind.TheVariants as kind
-use Rattle.machine.specs.flow_paths.typed_tree.type_definitions.declared.table.Entry.{Entry}
-use Rattle.machine.specs.flow_paths.typed_tree.type_definitions.declared.table.Entry.TheVariants as entry
-use Rattle.machine.specs.flow_paths.typed_tree.type_definitions.declared.table.Shape.TheVariants as shape
-use Rattle.machine.specs.flow_paths.typed_tree.type_definitions.Types.{Table, info}
-use Rattle.machine.specs.flow_paths.typed_tree.type_definitions.Entries.{entry_of, is_type, marked}
-use Rattle.machine.specs.flow_paths.typed_tree.type_definitions.Names.{Context}
-use Rattle.machine.specs.flow_paths.typed_tree.type_definitions.Declarations.{holds_shape, holds_parent}
-use Rattle.machine.specs.flow_paths.typed_tree.type_definitions.Gathered.{declared_number, each, own_info, indicated, with_entry, with_indication, with_object, object_info, with_number, number_info, plain_object, with_formal, with_formal_group, with_formals, with_result, with_front, profile, with_literals, with_definition}
+use Rattle.machine.specs.spark_base.declared.position.Pos.{Pos}
+use Rattle.machine.specs.spark_base.Lists.{Has}
+use Rattle.machine.specs.resolved_tree.Trees.{More, Code, Anonymous, Enumeration, Formals, Front}
+use Rattle.machine.specs.type_definitions.declared.table.Info.{Info}
+use Rattle.machine.specs.type_definitions.declared.table.InitialValue.{InitialValue}
+use Rattle.machine.specs.type_definitions.declared.table.Known.{Known}
+use Rattle.machine.specs.type_definitions.declared.table.Kind.TheVariants as kind
+use Rattle.machine.specs.type_definitions.declared.table.Entry.{Entry}
+use Rattle.machine.specs.type_definitions.declared.table.Entry.TheVariants as entry
+use Rattle.machine.specs.type_definitions.declared.table.Shape.TheVariants as shape
+use Rattle.machine.specs.type_definitions.Types.{Table, info}
+use Rattle.machine.specs.type_definitions.Entries.{entry_of, is_type, marked}
+use Rattle.machine.specs.type_definitions.Names.{Context}
+use Rattle.machine.specs.type_definitions.Declarations.{holds_shape, holds_parent}
+use Rattle.machine.specs.type_definitions.Gathered.{declared_number, each, own_info, indicated, with_entry, with_indication, with_object, object_info, with_number, number_info, plain_object, with_formal, with_formal_group, with_formals, with_result, with_front, profile, with_literals, with_definition}
 use Rattle.type_settled.specs.Rings.{IsPart}
 use Rattle.settled_types.specs.Wholes.{written}
 use Rattle.settled_types.specs.Orderly.{Past, with_incomplete, with_private, within, IsNew, NewOne, AllNew, NewLiterals, NewGroup, NewFormals, NewFront}

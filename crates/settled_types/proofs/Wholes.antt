@@ -2,10 +2,10 @@
 use Rattle.std.proofs.Common.{◌≡◌, ℕ, zero, suc, ◌≤◌, not, refl, sym, ap, ◌∙◌, arith, length, nat_lt, Option, Some, None, IsTrue}
 use Rattle.std.specs.Prelude.{slice_get}
 use Rattle.std.proofs.lemmas.Option.{slice_get_past}
-use Rattle.machine.specs.flow_paths.typed_tree.type_definitions.declared.table.Info.{Info}
-use Rattle.machine.specs.flow_paths.typed_tree.type_definitions.declared.table.Shape.{Shape}
-use Rattle.machine.specs.flow_paths.typed_tree.type_definitions.declared.table.Shape.TheVariants as shape
-use Rattle.machine.specs.flow_paths.typed_tree.type_definitions.Types.{Table, meant_type, meant_type_found, same_as, shape_found, shape_of, words, words_of, words_within, parts, parts_of, parts_within, is_owning, owns_of, owns_within, is_nil}
+use Rattle.machine.specs.type_definitions.declared.table.Info.{Info}
+use Rattle.machine.specs.type_definitions.declared.table.Shape.{Shape}
+use Rattle.machine.specs.type_definitions.declared.table.Shape.TheVariants as shape
+use Rattle.machine.specs.type_definitions.Types.{Table, meant_type, meant_type_found, same_as, shape_found, shape_of, words, words_of, words_within, parts, parts_of, parts_within, is_owning, owns_of, owns_within, is_nil}
 use Rattle.type_settled.specs.Rings.{Inside}
 use Rattle.type_settled.proofs.Depths.{words_same, parts_same}
 use Rattle.type_settled.proofs.Owning.{owns_depth}

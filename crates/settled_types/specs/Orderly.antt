@@ -2,12 +2,12 @@
 -- full type completes a private type of a package, or an incomplete one. The latter ends after all marks
 -- of definitions up to there: nothing is made of a type that isn't complete.
 use Rattle.std.specs.Prelude.{◌≡◌, ◌⊎◌, ◌<◌, ◌≤◌, ℕ, Bool, true, false, List, [], ◌∷◌, nat_eq, if◌then◌else◌}
-use Rattle.machine.specs.flow_paths.typed_tree.type_definitions.resolved_tree.spark_base.declared.position.Pos.{Pos}
-use Rattle.machine.specs.flow_paths.typed_tree.type_definitions.resolved_tree.spark_base.Lists.{Has}
-use Rattle.machine.specs.flow_paths.typed_tree.type_definitions.resolved_tree.Trees.{More, Code, Enumeration, Record, Components, Array, Incomplete, Private, TypeDecl, Subtype, ConstrainedSubtype, Objects, Numbers, Instance, Formals, Front, SubDecl, SubBody, Package, PackageBody, If, Branch, Case, When, Loop, While, For, Block, Program}
-use Rattle.machine.specs.flow_paths.typed_tree.type_definitions.Types.{untyped}
-use Rattle.machine.specs.flow_paths.typed_tree.type_definitions.Faults.{is_before}
-use Rattle.machine.specs.flow_paths.typed_tree.type_definitions.Gathered.{declared_number}
+use Rattle.machine.specs.spark_base.declared.position.Pos.{Pos}
+use Rattle.machine.specs.spark_base.Lists.{Has}
+use Rattle.machine.specs.resolved_tree.Trees.{More, Code, Enumeration, Record, Components, Array, Incomplete, Private, TypeDecl, Subtype, ConstrainedSubtype, Objects, Numbers, Instance, Formals, Front, SubDecl, SubBody, Package, PackageBody, If, Branch, Case, When, Loop, While, For, Block, Program}
+use Rattle.machine.specs.type_definitions.Types.{untyped}
+use Rattle.machine.specs.type_definitions.Faults.{is_before}
+use Rattle.machine.specs.type_definitions.Gathered.{declared_number}
 
 -- ---- what stands before a place in the text
 

@@ -1,8 +1,8 @@
 -- What it is that the words, the parts and the owning of each type are those of its whole definition.
 use Rattle.std.specs.Prelude.{◌≡◌, ℕ, slice_get}
-use Rattle.machine.specs.flow_paths.typed_tree.type_definitions.declared.table.Shape.{Shape}
-use Rattle.machine.specs.flow_paths.typed_tree.type_definitions.declared.table.Shape.TheVariants as shape
-use Rattle.machine.specs.flow_paths.typed_tree.type_definitions.Types.{Table, shape_found, shape_of, words, words_of, parts, parts_of, is_owning, owns_of}
+use Rattle.machine.specs.type_definitions.declared.table.Shape.{Shape}
+use Rattle.machine.specs.type_definitions.declared.table.Shape.TheVariants as shape
+use Rattle.machine.specs.type_definitions.Types.{Table, shape_found, shape_of, words, words_of, parts, parts_of, is_owning, owns_of}
 use Rattle.type_settled.specs.Rings.{Inside}
 
 -- The definition that stands in the table: that of a subtype without a constraint says what it is the same as.

@@ -1,19 +1,19 @@
 -- Code without a fault of typing has fronts without one.
 use Rattle.std.proofs.Common.{◌≡◌, inl, inr, ℕ, Bool, ◌&&◌, IsTrue, arith, List, [], ◌∷◌, ◌++◌, refl, sym, subst, None, true≢false}
 use Rattle.std.specs.Prelude.{flat_map}
-use Rattle.machine.specs.flow_paths.typed_tree.type_definitions.resolved_tree.spark_base.Lists.{Has}
+use Rattle.machine.specs.spark_base.Lists.{Has}
 use Rattle.spark_base.proofs.Lists.{Has-append_cases}
-use Rattle.machine.specs.flow_paths.typed_tree.type_definitions.resolved_tree.Trees.{Code, NoMore, More, SubDecl, SubBody, Package, PackageBody, If, Branch, Case, When, Loop, While, For, Block, code_items, Program}
-use Rattle.machine.specs.flow_paths.typed_tree.type_definitions.declared.judgement.Fault.{Fault}
-use Rattle.machine.specs.flow_paths.typed_tree.type_definitions.declared.judgement.Where.TheVariants as stands
-use Rattle.machine.specs.flow_paths.typed_tree.type_definitions.declared.table.Known.{Known}
-use Rattle.machine.specs.flow_paths.typed_tree.type_definitions.Entries.{boolean}
-use Rattle.machine.specs.flow_paths.typed_tree.type_definitions.Names.{Context}
-use Rattle.machine.specs.flow_paths.typed_tree.type_definitions.Expressions.{faults, own_type}
-use Rattle.machine.specs.flow_paths.typed_tree.type_definitions.Statements.{is_one_choice, coverage, type_or_integer, range_faults}
-use Rattle.machine.specs.flow_paths.typed_tree.type_definitions.Gathered.{declared_number, in_visible, in_hidden}
-use Rattle.machine.specs.flow_paths.typed_tree.type_definitions.Declarations.{body_faults, in_body, in_loop, selector_faults, choices_of, choices_faults, is_last, code_faults, alternatives_faults, alternative_faults}
-use Rattle.machine.specs.flow_paths.typed_tree.type_definitions.Whole.{unit_faults, main_faults, outside, known_of, type_fault}
+use Rattle.machine.specs.resolved_tree.Trees.{Code, NoMore, More, SubDecl, SubBody, Package, PackageBody, If, Branch, Case, When, Loop, While, For, Block, code_items, Program}
+use Rattle.machine.specs.type_definitions.declared.judgement.Fault.{Fault}
+use Rattle.machine.specs.type_definitions.declared.judgement.Where.TheVariants as stands
+use Rattle.machine.specs.type_definitions.declared.table.Known.{Known}
+use Rattle.machine.specs.type_definitions.Entries.{boolean}
+use Rattle.machine.specs.type_definitions.Names.{Context}
+use Rattle.machine.specs.type_definitions.Expressions.{faults, own_type}
+use Rattle.machine.specs.type_definitions.Statements.{is_one_choice, coverage, type_or_integer, range_faults}
+use Rattle.machine.specs.type_definitions.Gathered.{declared_number, in_visible, in_hidden}
+use Rattle.machine.specs.type_definitions.Declarations.{body_faults, in_body, in_loop, selector_faults, choices_of, choices_faults, is_last, code_faults, alternatives_faults, alternative_faults}
+use Rattle.machine.specs.type_definitions.Whole.{unit_faults, main_faults, outside, known_of, type_fault}
 use Rattle.type_sizes.specs.Formed.{is_formed, are_alternatives, is_alternative, all_formed}
 use Rattle.settled_types.proofs.Faultless.{no_faults}
 use Rattle.soundness.proofs.TypedLaws.Agreeing.{nil_left, nil_right}

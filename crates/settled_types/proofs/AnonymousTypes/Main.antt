@@ -4,29 +4,29 @@ use Rattle.std.proofs.Common.{◌≡◌, ◌⊎◌, inl, inr, refl, sym, ap, ◌
 use Rattle.std.specs.Prelude.{slice_get, is_some}
 use Rattle.std.specs.List.{AllByRecursion}
 use Rattle.std.proofs.lemmas.Bool.{cases_lt, false≢true}
-use Rattle.machine.specs.flow_paths.typed_tree.type_definitions.resolved_tree.spark_base.Lists.{Has}
-use Rattle.machine.specs.flow_paths.typed_tree.type_definitions.resolved_tree.spark_base.declared.position.Pos.{Pos}
-use Rattle.machine.specs.flow_paths.typed_tree.type_definitions.resolved_tree.place_names.declared.act.Mode.{Mode}
-use Rattle.machine.specs.flow_paths.typed_tree.type_definitions.resolved_tree.place_names.declared.act.Mode.TheVariants as mode
-use Rattle.machine.specs.flow_paths.typed_tree.type_definitions.resolved_tree.declared.node.Mark.{Mark}
-use Rattle.machine.specs.flow_paths.typed_tree.type_definitions.resolved_tree.Trees.{More, NoMore, Code, Plain, Anonymous, Formals, Front, Program}
-use Rattle.machine.specs.flow_paths.typed_tree.type_definitions.declared.judgement.Fault.{Fault}
-use Rattle.machine.specs.flow_paths.typed_tree.type_definitions.declared.table.Entry.{Entry}
-use Rattle.machine.specs.flow_paths.typed_tree.type_definitions.declared.table.Entry.TheVariants as entry
-use Rattle.machine.specs.flow_paths.typed_tree.type_definitions.declared.table.FormalInfo.{FormalInfo}
-use Rattle.machine.specs.flow_paths.typed_tree.type_definitions.declared.table.Info.{Info}
-use Rattle.machine.specs.flow_paths.typed_tree.type_definitions.declared.table.Known.{Known}
-use Rattle.machine.specs.flow_paths.typed_tree.type_definitions.declared.table.Profile.{Profile}
-use Rattle.machine.specs.flow_paths.typed_tree.type_definitions.declared.table.Shape.{Shape}
-use Rattle.machine.specs.flow_paths.typed_tree.type_definitions.declared.table.Shape.TheVariants as shape
-use Rattle.machine.specs.flow_paths.typed_tree.type_definitions.Types.{Table, base, full, shape_of, shape_found, meant_type_found, view_of, same_as}
-use Rattle.machine.specs.flow_paths.typed_tree.type_definitions.Faults.{demand}
-use Rattle.machine.specs.flow_paths.typed_tree.type_definitions.Entries.{entry_of, integer, denotes_type, marked}
-use Rattle.machine.specs.flow_paths.typed_tree.type_definitions.Names.{Context}
-use Rattle.machine.specs.flow_paths.typed_tree.type_definitions.Expressions.{is_anonymous, is_in, is_traversal, profile_of}
-use Rattle.machine.specs.flow_paths.typed_tree.type_definitions.Gathered.{declared_number, declared_pos, indicated, indicates_type, is_anonymous_indication, anonymous_result, formal_group, formal_infos, result_indicated, profile_from, profile, front_number}
-use Rattle.machine.specs.flow_paths.typed_tree.type_definitions.Declarations.{indication_faults, is_traversable, formal_faults, group_faults, formals_group, formals_faults, result_faults, has_none, front_faults, front_pos, same_access, same_result, same_formals, agrees}
-use Rattle.machine.specs.flow_paths.typed_tree.type_definitions.Whole.{known_of, type_fault}
+use Rattle.machine.specs.spark_base.Lists.{Has}
+use Rattle.machine.specs.spark_base.declared.position.Pos.{Pos}
+use Rattle.machine.specs.place_names.declared.act.Mode.{Mode}
+use Rattle.machine.specs.place_names.declared.act.Mode.TheVariants as mode
+use Rattle.machine.specs.resolved_tree.declared.node.Mark.{Mark}
+use Rattle.machine.specs.resolved_tree.Trees.{More, NoMore, Code, Plain, Anonymous, Formals, Front, Program}
+use Rattle.machine.specs.type_definitions.declared.judgement.Fault.{Fault}
+use Rattle.machine.specs.type_definitions.declared.table.Entry.{Entry}
+use Rattle.machine.specs.type_definitions.declared.table.Entry.TheVariants as entry
+use Rattle.machine.specs.type_definitions.declared.table.FormalInfo.{FormalInfo}
+use Rattle.machine.specs.type_definitions.declared.table.Info.{Info}
+use Rattle.machine.specs.type_definitions.declared.table.Known.{Known}
+use Rattle.machine.specs.type_definitions.declared.table.Profile.{Profile}
+use Rattle.machine.specs.type_definitions.declared.table.Shape.{Shape}
+use Rattle.machine.specs.type_definitions.declared.table.Shape.TheVariants as shape
+use Rattle.machine.specs.type_definitions.Types.{Table, base, full, shape_of, shape_found, meant_type_found, view_of, same_as}
+use Rattle.machine.specs.type_definitions.Faults.{demand}
+use Rattle.machine.specs.type_definitions.Entries.{entry_of, integer, denotes_type, marked}
+use Rattle.machine.specs.type_definitions.Names.{Context}
+use Rattle.machine.specs.type_definitions.Expressions.{is_anonymous, is_in, is_traversal, profile_of}
+use Rattle.machine.specs.type_definitions.Gathered.{declared_number, declared_pos, indicated, indicates_type, is_anonymous_indication, anonymous_result, formal_group, formal_infos, result_indicated, profile_from, profile, front_number}
+use Rattle.machine.specs.type_definitions.Declarations.{indication_faults, is_traversable, formal_faults, group_faults, formals_group, formals_faults, result_faults, has_none, front_faults, front_pos, same_access, same_result, same_formals, agrees}
+use Rattle.machine.specs.type_definitions.Whole.{known_of, type_fault}
 use Rattle.type_sizes.specs.Formed.{all_formed}
 use Rattle.settled_types.specs.Wholes.{written}
 use Rattle.settled_types.specs.Orderly.{Past, at_start, IsOrderly}

@@ -1,8 +1,8 @@
 -- The tokens of a text, as the definition cuts it, stand in its order.
 use Rattle.std.proofs.Common.{◌≡◌, ◌⊎◌, inl, inr, ℕ, zero, suc, ◌-◌, ◌+◌, ◌==◌, Bool, true, false, if◌then◌else◌, List, [], ◌∷◌, take, Ok, Err, refl, sym, ap, ◌∙◌, subst, arith}
-use Rattle.machine.specs.flow_paths.typed_tree.type_definitions.resolved_tree.spark_base.declared.position.Pos.{Pos}
-use Rattle.machine.specs.flow_paths.typed_tree.type_definitions.resolved_tree.spark_base.Lists.{Has}
-use Rattle.machine.specs.flow_paths.typed_tree.type_definitions.resolved_tree.spark_base.Positions.{Precedes}
+use Rattle.machine.specs.spark_base.declared.position.Pos.{Pos}
+use Rattle.machine.specs.spark_base.Lists.{Has}
+use Rattle.machine.specs.spark_base.Positions.{Precedes}
 use Rattle.spark_base.proofs.Positions.{line-Precedes, column-Precedes, Precedes-trans}
 use Rattle.ada_lexer.specs.declared.token.TokenKind.{TokenKind}
 use Rattle.ada_lexer.specs.declared.token.TokenKind.TheVariants.{EndOfFile}

@@ -7,7 +7,7 @@ use Rattle.ada_tree.specs.declared.unit.SourceUnit.{SourceUnit}
 use Rattle.ada_tree.specs.Spelling.{source_spelling}
 use Rattle.name_events.specs.declared.declaration.Identified.{Identified}
 use Rattle.name_events.specs.Identified.{identified}
-use Rattle.machine.specs.flow_paths.typed_tree.type_definitions.resolved_tree.Trees.{Code}
+use Rattle.machine.specs.resolved_tree.Trees.{Code}
 use Rattle.expression_lowering.specs.LoweredExpressions.{Numbers}
 use Rattle.tree_lowering.specs.Lowered.{lowered_unit, lowered_files}
 use Rattle.settled_types.specs.Orderly.{at_start}

@@ -3,7 +3,7 @@ use Rattle.std.proofs.Common.{ℕ, suc, inl, refl, sym, List, [], ◌∷◌, ◌
 use Rattle.std.specs.List.{flat_map}
 use Rattle.std.proofs.lemmas.List.{append-nil}
 use Rattle.std.proofs.lemmas.List.Concat.{flat_map-append}
-use Rattle.machine.specs.flow_paths.typed_tree.type_definitions.resolved_tree.spark_base.declared.position.Pos.{Pos}
+use Rattle.machine.specs.spark_base.declared.position.Pos.{Pos}
 use Rattle.ada_lexer.specs.declared.token.Symbol.TheVariants as s
 use Rattle.token_reading.specs.Weights.{WeighedToken}
 use Rattle.token_reading.specs.Reading.{Each}
@@ -34,7 +34,7 @@ use Rattle.ada_tree.specs.declared.unit.BodyPart.TheVariants as part
 use Rattle.ada_tree.specs.declared.unit.SubprogramBody.{SubprogramBody}
 use Rattle.ada_tree.specs.Spelling.{symbol, optional, dotted_spelling, component_spelling, item_spelling, stmts_box, stmts_spelling, stmt_box, next_stmts_spelling, stmt_spelling, elsifs_spelling, elsif_spelling, when_box, next_whens_spelling, when_spelling, decl_spelling, subprogram_spelling, body_part_spelling, private_spelling, package_spelling, package_body_spelling, unit_spelling, source_spelling}
 use Rattle.ada_tree.specs.WellPlaced.{EachSome, DottedPlaced, ComponentPlaced, ItemPlaced, StmtsBoxPlaced, StmtsPlaced, StmtBoxPlaced, EachStmtPlaced, StmtPlaced, ElsifsPlaced, ElsifPlaced, WhenBoxPlaced, WhensPlaced, WhenPlaced, DeclPlaced, SubprogramPlaced, BodyPartPlaced, PrivatePlaced, PackagePlaced, PackageBodyPlaced, UnitPlaced, WellPlaced}
-use Rattle.machine.specs.flow_paths.typed_tree.type_definitions.resolved_tree.Trees.{Code, code_list}
+use Rattle.machine.specs.resolved_tree.Trees.{Code, code_list}
 use Rattle.expression_lowering.specs.LoweredExpressions.{Numbers}
 use Rattle.tree_lowering.specs.Lowered.{lowered_component, lowered_subtype, lowered_type, lowered_declaration, item_before, before_all, lowered_items, lowered_simple, lowered_stmts, lowered_stmt_box, stmts_row, lowered_stmt, lowered_stmts_box, elsifs_row, lowered_elsif, lowered_when_box, whens_row, lowered_when, lowered_subprogram, decl_before, part_before, lowered_decls, lowered_private, lowered_package, lowered_package_body, lowered_unit}
 use Rattle.settled_types.specs.FilePositions.Order.{IsLeftOf, token_position, spelled_positions}

@@ -1,16 +1,16 @@
 -- Types that are based on one type have one definition, or are scalar of one kind, after both turns.
 use Rattle.std.proofs.Common.{◌≡◌, inl, inr, ℕ, zero, suc, ◌-◌, ◌<◌, ◌≤◌, true, false, List, [], ◌∷◌, flat_map, replicate, refl, sym, ap, ◌∙◌, arith, subst, true≢false}
 use Rattle.std.specs.Prelude.{slice_get}
-use Rattle.machine.specs.flow_paths.typed_tree.type_definitions.resolved_tree.spark_base.Lists.{Has}
+use Rattle.machine.specs.spark_base.Lists.{Has}
 use Rattle.spark_base.proofs.Lists.{Has-append_left, Has-append_right}
-use Rattle.machine.specs.flow_paths.typed_tree.type_definitions.resolved_tree.Trees.{Code, More, Enumeration, Record, Array, Access, TypeDecl, ConstrainedSubtype, SubBody, Package, PackageBody, If, Branch, Case, When, Loop, While, For, Block, Program}
-use Rattle.machine.specs.flow_paths.typed_tree.type_definitions.declared.table.Known.{Known}
-use Rattle.machine.specs.flow_paths.typed_tree.type_definitions.declared.table.Shape.{Shape}
-use Rattle.machine.specs.flow_paths.typed_tree.type_definitions.declared.table.Shape.TheVariants as shape
-use Rattle.machine.specs.flow_paths.typed_tree.type_definitions.Types.{Table, base, meant_type, no_type}
-use Rattle.machine.specs.flow_paths.typed_tree.type_definitions.Names.{Context}
-use Rattle.machine.specs.flow_paths.typed_tree.type_definitions.Gathered.{gather, defined, declared_number}
-use Rattle.machine.specs.flow_paths.typed_tree.type_definitions.Whole.{predefined_types, outside, gather_units, known_from, known_of}
+use Rattle.machine.specs.resolved_tree.Trees.{Code, More, Enumeration, Record, Array, Access, TypeDecl, ConstrainedSubtype, SubBody, Package, PackageBody, If, Branch, Case, When, Loop, While, For, Block, Program}
+use Rattle.machine.specs.type_definitions.declared.table.Known.{Known}
+use Rattle.machine.specs.type_definitions.declared.table.Shape.{Shape}
+use Rattle.machine.specs.type_definitions.declared.table.Shape.TheVariants as shape
+use Rattle.machine.specs.type_definitions.Types.{Table, base, meant_type, no_type}
+use Rattle.machine.specs.type_definitions.Names.{Context}
+use Rattle.machine.specs.type_definitions.Gathered.{gather, defined, declared_number}
+use Rattle.machine.specs.type_definitions.Whole.{predefined_types, outside, gather_units, known_from, known_of}
 use Rattle.settled_types.specs.Wholes.{written}
 use Rattle.settled_types.specs.Orderly.{Past, at_start, past_after, past_units, AllOrderly, IsOrderly}
 use Rattle.settled_types.specs.Stamped.{AllOpen, IsFixed, AreRows, LeadsTo}

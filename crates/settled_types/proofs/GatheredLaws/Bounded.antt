@@ -1,16 +1,16 @@
 -- In the second turn, what a type that is scalar in the end is based on is scalar already.
 use Rattle.std.proofs.Common.{◌≡◌, inl, inr, ℕ, zero, suc, ◌<◌, true, false, List, refl, sym, ap, ◌∙◌, arith, subst, Option, Some, None, true≢false}
 use Rattle.std.specs.Prelude.{slice_get}
-use Rattle.machine.specs.flow_paths.typed_tree.type_definitions.resolved_tree.spark_base.Lists.{Has}
-use Rattle.machine.specs.flow_paths.typed_tree.type_definitions.resolved_tree.declared.node.Mark.{Mark}
-use Rattle.machine.specs.flow_paths.typed_tree.type_definitions.declared.table.Known.{Known}
-use Rattle.machine.specs.flow_paths.typed_tree.type_definitions.declared.table.Entry.{Entry}
-use Rattle.machine.specs.flow_paths.typed_tree.type_definitions.declared.table.Entry.TheVariants as entry
-use Rattle.machine.specs.flow_paths.typed_tree.type_definitions.declared.table.Shape.{Shape}
-use Rattle.machine.specs.flow_paths.typed_tree.type_definitions.declared.table.Shape.TheVariants as shape
-use Rattle.machine.specs.flow_paths.typed_tree.type_definitions.Types.{Table, base, base_found, meant_type, meant_type_found, shape_of, shape_found, full, view_of, is_scalar}
-use Rattle.machine.specs.flow_paths.typed_tree.type_definitions.Entries.{entry_of, is_type, marked, type_of_mark, type_of_entry}
-use Rattle.machine.specs.flow_paths.typed_tree.type_definitions.Whole.{predefined_types}
+use Rattle.machine.specs.spark_base.Lists.{Has}
+use Rattle.machine.specs.resolved_tree.declared.node.Mark.{Mark}
+use Rattle.machine.specs.type_definitions.declared.table.Known.{Known}
+use Rattle.machine.specs.type_definitions.declared.table.Entry.{Entry}
+use Rattle.machine.specs.type_definitions.declared.table.Entry.TheVariants as entry
+use Rattle.machine.specs.type_definitions.declared.table.Shape.{Shape}
+use Rattle.machine.specs.type_definitions.declared.table.Shape.TheVariants as shape
+use Rattle.machine.specs.type_definitions.Types.{Table, base, base_found, meant_type, meant_type_found, shape_of, shape_found, full, view_of, is_scalar}
+use Rattle.machine.specs.type_definitions.Entries.{entry_of, is_type, marked, type_of_mark, type_of_entry}
+use Rattle.machine.specs.type_definitions.Whole.{predefined_types}
 use Rattle.settled_types.specs.Wholes.{written}
 use Rattle.settled_types.specs.Orderly.{Past}
 use Rattle.settled_types.specs.Stamped.{IsType, IsFixed, AreRows, LeadsTo}

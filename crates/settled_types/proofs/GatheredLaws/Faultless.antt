@@ -1,24 +1,24 @@
 -- Code without a fault of typing is faultless in its subtypes with bounds and in its instances.
 use Rattle.std.proofs.Common.{◌≡◌, inl, inr, ℕ, Bool, true, false, ◌&&◌, IsTrue, arith, List, [], ◌∷◌, ◌++◌, refl, sym, ◌∙◌, subst, Option, Some, None, true≢false, if◌then◌else◌}
 use Rattle.std.specs.Prelude.{flat_map, slice_get}
-use Rattle.machine.specs.flow_paths.typed_tree.type_definitions.resolved_tree.spark_base.Lists.{Has}
-use Rattle.machine.specs.flow_paths.typed_tree.type_definitions.resolved_tree.declared.node.Mark.{Mark}
-use Rattle.machine.specs.flow_paths.typed_tree.type_definitions.resolved_tree.Trees.{Code, NoMore, More, ConstrainedSubtype, Instance, SubBody, Package, PackageBody, If, Branch, Case, When, Loop, While, For, Block, code_items, Program}
-use Rattle.machine.specs.flow_paths.typed_tree.type_definitions.declared.judgement.Fault.{Fault}
-use Rattle.machine.specs.flow_paths.typed_tree.type_definitions.declared.judgement.View.{View}
-use Rattle.machine.specs.flow_paths.typed_tree.type_definitions.declared.judgement.View.TheVariants as view
-use Rattle.machine.specs.flow_paths.typed_tree.type_definitions.declared.judgement.Where.TheVariants as stands
-use Rattle.machine.specs.flow_paths.typed_tree.type_definitions.declared.table.Info.{Info}
-use Rattle.machine.specs.flow_paths.typed_tree.type_definitions.declared.table.Known.{Known}
-use Rattle.machine.specs.flow_paths.typed_tree.type_definitions.Types.{full, is_scalar, is_same, meant_type, view_of, shape_found}
-use Rattle.machine.specs.flow_paths.typed_tree.type_definitions.Faults.{demand}
-use Rattle.machine.specs.flow_paths.typed_tree.type_definitions.Entries.{boolean, denotes_type, marked, is_complete}
-use Rattle.machine.specs.flow_paths.typed_tree.type_definitions.Names.{Context, seen, seen_info, is_within}
-use Rattle.machine.specs.flow_paths.typed_tree.type_definitions.Expressions.{faults, own_type, associates, given_names, designated}
-use Rattle.machine.specs.flow_paths.typed_tree.type_definitions.Statements.{is_one_choice, coverage, type_or_integer, range_faults, scalar_mark, name_object, name_name}
-use Rattle.machine.specs.flow_paths.typed_tree.type_definitions.Gathered.{declared_number, declared_pos, in_visible, in_hidden, instance_type}
-use Rattle.machine.specs.flow_paths.typed_tree.type_definitions.Declarations.{bound_faults, constraint_faults, body_faults, in_body, in_loop, selector_faults, choices_of, choices_faults, is_last, is_named_access, all_types, object_actual, denotes_deallocation, actual_marks, code_faults, alternatives_faults, alternative_faults}
-use Rattle.machine.specs.flow_paths.typed_tree.type_definitions.Whole.{unit_faults, main_faults, outside, known_of, type_fault}
+use Rattle.machine.specs.spark_base.Lists.{Has}
+use Rattle.machine.specs.resolved_tree.declared.node.Mark.{Mark}
+use Rattle.machine.specs.resolved_tree.Trees.{Code, NoMore, More, ConstrainedSubtype, Instance, SubBody, Package, PackageBody, If, Branch, Case, When, Loop, While, For, Block, code_items, Program}
+use Rattle.machine.specs.type_definitions.declared.judgement.Fault.{Fault}
+use Rattle.machine.specs.type_definitions.declared.judgement.View.{View}
+use Rattle.machine.specs.type_definitions.declared.judgement.View.TheVariants as view
+use Rattle.machine.specs.type_definitions.declared.judgement.Where.TheVariants as stands
+use Rattle.machine.specs.type_definitions.declared.table.Info.{Info}
+use Rattle.machine.specs.type_definitions.declared.table.Known.{Known}
+use Rattle.machine.specs.type_definitions.Types.{full, is_scalar, is_same, meant_type, view_of, shape_found}
+use Rattle.machine.specs.type_definitions.Faults.{demand}
+use Rattle.machine.specs.type_definitions.Entries.{boolean, denotes_type, marked, is_complete}
+use Rattle.machine.specs.type_definitions.Names.{Context, seen, seen_info, is_within}
+use Rattle.machine.specs.type_definitions.Expressions.{faults, own_type, associates, given_names, designated}
+use Rattle.machine.specs.type_definitions.Statements.{is_one_choice, coverage, type_or_integer, range_faults, scalar_mark, name_object, name_name}
+use Rattle.machine.specs.type_definitions.Gathered.{declared_number, declared_pos, in_visible, in_hidden, instance_type}
+use Rattle.machine.specs.type_definitions.Declarations.{bound_faults, constraint_faults, body_faults, in_body, in_loop, selector_faults, choices_of, choices_faults, is_last, is_named_access, all_types, object_actual, denotes_deallocation, actual_marks, code_faults, alternatives_faults, alternative_faults}
+use Rattle.machine.specs.type_definitions.Whole.{unit_faults, main_faults, outside, known_of, type_fault}
 use Rattle.type_sizes.specs.Formed.{is_formed, are_alternatives, is_alternative, all_formed}
 use Rattle.settled_types.proofs.Faultless.{no_faults}
 use Rattle.soundness.proofs.TypedLaws.Agreeing.{nil_left, nil_right, holds}

@@ -3,31 +3,31 @@ use Rattle.std.proofs.Common.{◌≡◌, inl, inr, refl, sym, ap, subst, ℕ, ze
 use Rattle.std.specs.Prelude.{slice_get, is_some}
 use Rattle.std.specs.List.{AllByRecursion}
 use Rattle.std.proofs.lemmas.Bool.{eqb-true, false≢true}
-use Rattle.machine.specs.flow_paths.typed_tree.type_definitions.resolved_tree.spark_base.declared.position.Pos.{Pos}
-use Rattle.machine.specs.flow_paths.typed_tree.type_definitions.resolved_tree.spark_base.Lists.{Has}
+use Rattle.machine.specs.spark_base.declared.position.Pos.{Pos}
+use Rattle.machine.specs.spark_base.Lists.{Has}
 use Rattle.spark_base.proofs.Lists.{Has-append_left, Has-append_right, Has-map}
-use Rattle.machine.specs.flow_paths.typed_tree.type_definitions.resolved_tree.declared.node.Mark.{Mark}
-use Rattle.machine.specs.flow_paths.typed_tree.type_definitions.resolved_tree.Trees.{More, Code, Plain, Anonymous, Bounds, Marked, Constrained, Enumeration, Record, Components, Array, Access, Incomplete, Private, TypeDecl, Subtype, ConstrainedSubtype, Objects, Numbers, Instance, Formals, Front, SubDecl, SubBody, Package, PackageBody, If, Branch, Case, When, Loop, While, For, Block, code_items}
-use Rattle.machine.specs.flow_paths.typed_tree.type_definitions.declared.table.Component.{Component}
-use Rattle.machine.specs.flow_paths.typed_tree.type_definitions.declared.table.Info.{Info}
-use Rattle.machine.specs.flow_paths.typed_tree.type_definitions.declared.table.InitialValue.{InitialValue}
-use Rattle.machine.specs.flow_paths.typed_tree.type_definitions.declared.table.Shape.{Shape}
-use Rattle.machine.specs.flow_paths.typed_tree.type_definitions.declared.table.Shape.TheVariants as shape
-use Rattle.machine.specs.flow_paths.typed_tree.type_definitions.resolved_tree.place_names.declared.act.Mode.{Mode}
-use Rattle.machine.specs.flow_paths.typed_tree.type_definitions.declared.table.FormalInfo.{FormalInfo}
-use Rattle.machine.specs.flow_paths.typed_tree.type_definitions.declared.table.Entry.{Entry}
-use Rattle.machine.specs.flow_paths.typed_tree.type_definitions.declared.table.Entry.TheVariants as entry
-use Rattle.machine.specs.flow_paths.typed_tree.type_definitions.declared.table.Known.{Known}
-use Rattle.machine.specs.flow_paths.typed_tree.type_definitions.declared.table.Kind.TheVariants as kind
-use Rattle.machine.specs.flow_paths.typed_tree.type_definitions.declared.judgement.View.{View}
-use Rattle.machine.specs.flow_paths.typed_tree.type_definitions.declared.judgement.View.TheVariants as view
-use Rattle.machine.specs.flow_paths.typed_tree.type_definitions.Types.{info, info_found, base, base_found, full}
-use Rattle.machine.specs.flow_paths.typed_tree.type_definitions.Entries.{entry_of, type_of_entry, type_of_mark, marked}
-use Rattle.machine.specs.flow_paths.typed_tree.type_definitions.Names.{Context}
-use Rattle.machine.specs.flow_paths.typed_tree.type_definitions.Expressions.{own_type}
-use Rattle.machine.specs.flow_paths.typed_tree.type_definitions.Statements.{type_or_integer}
-use Rattle.machine.specs.flow_paths.typed_tree.type_definitions.Whole.{predefined_types}
-use Rattle.machine.specs.flow_paths.typed_tree.type_definitions.Gathered.{gather, each, declared_number, declared_pos, with_entry, with_info, with_type, own_info, indicated, with_indication, awaited_info, component_group, component_list, component_groups, defined, is_asked, is_bounded_range, are_static_bounds, bound_pair, has_bounds, with_literals, with_definition, full_info, constrained_shape, subtype_info, meant_by, with_object, object_info, constant_value, with_number, number_info, initial_value, plain_object, with_formal, with_formal_group, with_formals, with_result, with_front, with_body_front, profile, formal_group, formal_groups, formal_infos, anonymous_result, result_indicated, is_subprogram, front_number, parameter_type, in_subprogram, in_visible, in_hidden, instance_type}
+use Rattle.machine.specs.resolved_tree.declared.node.Mark.{Mark}
+use Rattle.machine.specs.resolved_tree.Trees.{More, Code, Plain, Anonymous, Bounds, Marked, Constrained, Enumeration, Record, Components, Array, Access, Incomplete, Private, TypeDecl, Subtype, ConstrainedSubtype, Objects, Numbers, Instance, Formals, Front, SubDecl, SubBody, Package, PackageBody, If, Branch, Case, When, Loop, While, For, Block, code_items}
+use Rattle.machine.specs.type_definitions.declared.table.Component.{Component}
+use Rattle.machine.specs.type_definitions.declared.table.Info.{Info}
+use Rattle.machine.specs.type_definitions.declared.table.InitialValue.{InitialValue}
+use Rattle.machine.specs.type_definitions.declared.table.Shape.{Shape}
+use Rattle.machine.specs.type_definitions.declared.table.Shape.TheVariants as shape
+use Rattle.machine.specs.place_names.declared.act.Mode.{Mode}
+use Rattle.machine.specs.type_definitions.declared.table.FormalInfo.{FormalInfo}
+use Rattle.machine.specs.type_definitions.declared.table.Entry.{Entry}
+use Rattle.machine.specs.type_definitions.declared.table.Entry.TheVariants as entry
+use Rattle.machine.specs.type_definitions.declared.table.Known.{Known}
+use Rattle.machine.specs.type_definitions.declared.table.Kind.TheVariants as kind
+use Rattle.machine.specs.type_definitions.declared.judgement.View.{View}
+use Rattle.machine.specs.type_definitions.declared.judgement.View.TheVariants as view
+use Rattle.machine.specs.type_definitions.Types.{info, info_found, base, base_found, full}
+use Rattle.machine.specs.type_definitions.Entries.{entry_of, type_of_entry, type_of_mark, marked}
+use Rattle.machine.specs.type_definitions.Names.{Context}
+use Rattle.machine.specs.type_definitions.Expressions.{own_type}
+use Rattle.machine.specs.type_definitions.Statements.{type_or_integer}
+use Rattle.machine.specs.type_definitions.Whole.{predefined_types}
+use Rattle.machine.specs.type_definitions.Gathered.{gather, each, declared_number, declared_pos, with_entry, with_info, with_type, own_info, indicated, with_indication, awaited_info, component_group, component_list, component_groups, defined, is_asked, is_bounded_range, are_static_bounds, bound_pair, has_bounds, with_literals, with_definition, full_info, constrained_shape, subtype_info, meant_by, with_object, object_info, constant_value, with_number, number_info, initial_value, plain_object, with_formal, with_formal_group, with_formals, with_result, with_front, with_body_front, profile, formal_group, formal_groups, formal_infos, anonymous_result, result_indicated, is_subprogram, front_number, parameter_type, in_subprogram, in_visible, in_hidden, instance_type}
 use Rattle.settled_types.specs.GatheredLaws.Made.{indicated_numbers, all_numbers, group_numbers, result_numbers, front_numbers, type_numbers, IsMadeOf, SpeaksOf, AreTypes}
 
 -- ---- lists

@@ -1,10 +1,10 @@
 -- What typed expressions ask of tables holds of programs where components have names of their own, and anonymous
 -- access types numbers of their own.
 use Rattle.std.proofs.Common.{◌≡◌, inl, ℕ, ◌<◌, arith, IsTrue, None}
-use Rattle.machine.specs.flow_paths.typed_tree.type_definitions.resolved_tree.spark_base.Lists.{Has}
-use Rattle.machine.specs.flow_paths.typed_tree.type_definitions.resolved_tree.Trees.{Code, Program}
-use Rattle.machine.specs.flow_paths.typed_tree.type_definitions.declared.table.Known.{Known}
-use Rattle.machine.specs.flow_paths.typed_tree.type_definitions.Whole.{known_of, type_fault}
+use Rattle.machine.specs.spark_base.Lists.{Has}
+use Rattle.machine.specs.resolved_tree.Trees.{Code, Program}
+use Rattle.machine.specs.type_definitions.declared.table.Known.{Known}
+use Rattle.machine.specs.type_definitions.Whole.{known_of, type_fault}
 use Rattle.type_sizes.specs.Formed.{all_formed}
 use Rattle.settled_types.specs.Orderly.{IsOrderly}
 use Rattle.settled_types.specs.Stamped.{AllOpen}

@@ -1,17 +1,17 @@
 -- A piece of the text of a program in order, where a turn over the text meets it, and the pieces in it.
 use Rattle.std.proofs.Common.{◌≡◌, ℕ, ◌≤◌, true, List, refl, ◌∙◌}
 use Rattle.std.specs.Prelude.{slice_get}
-use Rattle.machine.specs.flow_paths.typed_tree.type_definitions.resolved_tree.spark_base.Lists.{Has}
-use Rattle.machine.specs.flow_paths.typed_tree.type_definitions.resolved_tree.Trees.{More, Code, SubBody, Package, PackageBody, If, Branch, Case, When, Loop, While, For, Block}
-use Rattle.machine.specs.flow_paths.typed_tree.type_definitions.declared.table.Known.{Known}
-use Rattle.machine.specs.flow_paths.typed_tree.type_definitions.declared.table.Entry.{Entry}
-use Rattle.machine.specs.flow_paths.typed_tree.type_definitions.declared.table.Entry.TheVariants as entry
-use Rattle.machine.specs.flow_paths.typed_tree.type_definitions.declared.table.Kind.TheVariants as kind
-use Rattle.machine.specs.flow_paths.typed_tree.type_definitions.declared.table.Shape.TheVariants as shape
-use Rattle.machine.specs.flow_paths.typed_tree.type_definitions.Types.{Table}
-use Rattle.machine.specs.flow_paths.typed_tree.type_definitions.Entries.{entry_of}
-use Rattle.machine.specs.flow_paths.typed_tree.type_definitions.Names.{Context}
-use Rattle.machine.specs.flow_paths.typed_tree.type_definitions.Gathered.{gather, declared_number, in_subprogram, in_visible, in_hidden, with_body_front, with_entry, is_subprogram, front_number, plain_object, parameter_type}
+use Rattle.machine.specs.spark_base.Lists.{Has}
+use Rattle.machine.specs.resolved_tree.Trees.{More, Code, SubBody, Package, PackageBody, If, Branch, Case, When, Loop, While, For, Block}
+use Rattle.machine.specs.type_definitions.declared.table.Known.{Known}
+use Rattle.machine.specs.type_definitions.declared.table.Entry.{Entry}
+use Rattle.machine.specs.type_definitions.declared.table.Entry.TheVariants as entry
+use Rattle.machine.specs.type_definitions.declared.table.Kind.TheVariants as kind
+use Rattle.machine.specs.type_definitions.declared.table.Shape.TheVariants as shape
+use Rattle.machine.specs.type_definitions.Types.{Table}
+use Rattle.machine.specs.type_definitions.Entries.{entry_of}
+use Rattle.machine.specs.type_definitions.Names.{Context}
+use Rattle.machine.specs.type_definitions.Gathered.{gather, declared_number, in_subprogram, in_visible, in_hidden, with_body_front, with_entry, is_subprogram, front_number, plain_object, parameter_type}
 use Rattle.settled_types.specs.Wholes.{written}
 use Rattle.settled_types.specs.Orderly.{Past, within, past_after, Orderly}
 use Rattle.settled_types.specs.Stamped.{Opens, IsFixed, AreRows, LeadsTo}

@@ -3,20 +3,20 @@
 use Rattle.std.proofs.Common.{◌≡◌, ◌⊎◌, inl, inr, ℕ, zero, suc, ◌+◌, ◌-◌, ◌<◌, ◌≤◌, Bool, true, false, ◌&&◌, List, [], ◌∷◌, ◌++◌, flat_map, length, get_or, replicate, refl, sym, ap, ◌∙◌, arith, subst, Option, Some, None, true≢false, if◌then◌else◌}
 use Rattle.std.specs.Prelude.{slice_get}
 use Rattle.std.proofs.lemmas.Bool.{cases_lt}
-use Rattle.machine.specs.flow_paths.typed_tree.type_definitions.resolved_tree.spark_base.Lists.{Has}
-use Rattle.machine.specs.flow_paths.typed_tree.type_definitions.resolved_tree.Trees.{Tree, Named, Argument, NoMore, More, Code, Enumeration, TypeDecl, Instance, SubBody, Package, PackageBody, If, Branch, Case, When, Loop, While, For, Block, Program}
-use Rattle.machine.specs.flow_paths.typed_tree.type_definitions.declared.table.Entry.{Entry}
-use Rattle.machine.specs.flow_paths.typed_tree.type_definitions.declared.table.Entry.TheVariants as entry
-use Rattle.machine.specs.flow_paths.typed_tree.type_definitions.declared.table.Known.{Known}
-use Rattle.machine.specs.flow_paths.typed_tree.type_definitions.declared.table.Info.{Info}
-use Rattle.machine.specs.flow_paths.typed_tree.type_definitions.declared.table.Shape.{Shape}
-use Rattle.machine.specs.flow_paths.typed_tree.type_definitions.declared.table.Shape.TheVariants as shape
-use Rattle.machine.specs.flow_paths.typed_tree.type_definitions.Types.{Table, base, meant_type, meant_type_found, shape_of, shape_found, full, view_of}
-use Rattle.machine.specs.flow_paths.typed_tree.type_definitions.Entries.{entry_of, integer, is_type}
-use Rattle.machine.specs.flow_paths.typed_tree.type_definitions.Names.{Context}
-use Rattle.machine.specs.flow_paths.typed_tree.type_definitions.Gathered.{declared_number, actual_type, is_for_name, instance_actual, instance_type}
-use Rattle.machine.specs.flow_paths.typed_tree.type_definitions.Declarations.{is_named_access, names_type, all_types}
-use Rattle.machine.specs.flow_paths.typed_tree.type_definitions.Whole.{predefined_types, predefined_entries, outside, gather_units, known_of}
+use Rattle.machine.specs.spark_base.Lists.{Has}
+use Rattle.machine.specs.resolved_tree.Trees.{Tree, Named, Argument, NoMore, More, Code, Enumeration, TypeDecl, Instance, SubBody, Package, PackageBody, If, Branch, Case, When, Loop, While, For, Block, Program}
+use Rattle.machine.specs.type_definitions.declared.table.Entry.{Entry}
+use Rattle.machine.specs.type_definitions.declared.table.Entry.TheVariants as entry
+use Rattle.machine.specs.type_definitions.declared.table.Known.{Known}
+use Rattle.machine.specs.type_definitions.declared.table.Info.{Info}
+use Rattle.machine.specs.type_definitions.declared.table.Shape.{Shape}
+use Rattle.machine.specs.type_definitions.declared.table.Shape.TheVariants as shape
+use Rattle.machine.specs.type_definitions.Types.{Table, base, meant_type, meant_type_found, shape_of, shape_found, full, view_of}
+use Rattle.machine.specs.type_definitions.Entries.{entry_of, integer, is_type}
+use Rattle.machine.specs.type_definitions.Names.{Context}
+use Rattle.machine.specs.type_definitions.Gathered.{declared_number, actual_type, is_for_name, instance_actual, instance_type}
+use Rattle.machine.specs.type_definitions.Declarations.{is_named_access, names_type, all_types}
+use Rattle.machine.specs.type_definitions.Whole.{predefined_types, predefined_entries, outside, gather_units, known_of}
 use Rattle.machine.specs.Typed.{same_kind}
 use Rattle.soundness.specs.TypedLaws.Fine.{Agree, counts, lists}
 use Rattle.settled_types.specs.Wholes.{written}

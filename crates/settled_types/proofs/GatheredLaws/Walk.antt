@@ -1,22 +1,22 @@
 -- How types are based on others, over the text of a program in order.
 use Rattle.std.proofs.Common.{◌≡◌, ◌⊎◌, inl, inr, ℕ, ◌<◌, ◌≤◌, Bool, true, false, not, ◌||◌, List, [], ◌∷◌, ◌++◌, flat_map, if◌then◌else◌, set, length, refl, sym, ap, ◌∙◌, arith, subst, Option, Some, None, ℤ}
 use Rattle.std.specs.Prelude.{slice_get}
-use Rattle.machine.specs.flow_paths.typed_tree.type_definitions.resolved_tree.spark_base.declared.position.Pos.{Pos}
-use Rattle.machine.specs.flow_paths.typed_tree.type_definitions.resolved_tree.spark_base.Lists.{Has}
+use Rattle.machine.specs.spark_base.declared.position.Pos.{Pos}
+use Rattle.machine.specs.spark_base.Lists.{Has}
 use Rattle.spark_base.proofs.Lists.{Has-append_left, Has-append_right}
-use Rattle.machine.specs.flow_paths.typed_tree.type_definitions.declared.table.InitialValue.{InitialValue}
-use Rattle.machine.specs.flow_paths.typed_tree.type_definitions.resolved_tree.declared.node.Mark.{Mark}
-use Rattle.machine.specs.flow_paths.typed_tree.type_definitions.resolved_tree.Trees.{More, Code, Anonymous, Formals, Front, code_items, Incomplete, Private, TypeDecl, Subtype, ConstrainedSubtype, Objects, Numbers, SubDecl, SubBody, Package, PackageBody, If, Branch, Case, When, Loop, While, For, Block}
-use Rattle.machine.specs.flow_paths.typed_tree.type_definitions.declared.table.Info.{Info}
-use Rattle.machine.specs.flow_paths.typed_tree.type_definitions.declared.table.Known.{Known}
-use Rattle.machine.specs.flow_paths.typed_tree.type_definitions.declared.table.Entry.{Entry}
-use Rattle.machine.specs.flow_paths.typed_tree.type_definitions.declared.table.Entry.TheVariants as entry
-use Rattle.machine.specs.flow_paths.typed_tree.type_definitions.declared.table.Shape.{Shape}
-use Rattle.machine.specs.flow_paths.typed_tree.type_definitions.declared.table.Shape.TheVariants as shape
-use Rattle.machine.specs.flow_paths.typed_tree.type_definitions.Types.{Table, info, info_found, base, meant_type, meant_type_found, same_as, shape_of, shape_found, full, view_of, is_scalar}
-use Rattle.machine.specs.flow_paths.typed_tree.type_definitions.Entries.{entry_of, is_type, marked, type_of_mark, type_of_entry}
-use Rattle.machine.specs.flow_paths.typed_tree.type_definitions.Names.{Context}
-use Rattle.machine.specs.flow_paths.typed_tree.type_definitions.Gathered.{gather, defined, awaited_info, full_info, subtype_info, meant_by, constrained_shape, bound_pair, is_asked, are_static_bounds, constant_value, initial_value, with_type, own_info, with_indication, each, with_object, with_formal, with_formal_group, with_formals, with_result, with_front, with_body_front, is_subprogram, front_number, declared_number, declared_pos, in_hidden}
+use Rattle.machine.specs.type_definitions.declared.table.InitialValue.{InitialValue}
+use Rattle.machine.specs.resolved_tree.declared.node.Mark.{Mark}
+use Rattle.machine.specs.resolved_tree.Trees.{More, Code, Anonymous, Formals, Front, code_items, Incomplete, Private, TypeDecl, Subtype, ConstrainedSubtype, Objects, Numbers, SubDecl, SubBody, Package, PackageBody, If, Branch, Case, When, Loop, While, For, Block}
+use Rattle.machine.specs.type_definitions.declared.table.Info.{Info}
+use Rattle.machine.specs.type_definitions.declared.table.Known.{Known}
+use Rattle.machine.specs.type_definitions.declared.table.Entry.{Entry}
+use Rattle.machine.specs.type_definitions.declared.table.Entry.TheVariants as entry
+use Rattle.machine.specs.type_definitions.declared.table.Shape.{Shape}
+use Rattle.machine.specs.type_definitions.declared.table.Shape.TheVariants as shape
+use Rattle.machine.specs.type_definitions.Types.{Table, info, info_found, base, meant_type, meant_type_found, same_as, shape_of, shape_found, full, view_of, is_scalar}
+use Rattle.machine.specs.type_definitions.Entries.{entry_of, is_type, marked, type_of_mark, type_of_entry}
+use Rattle.machine.specs.type_definitions.Names.{Context}
+use Rattle.machine.specs.type_definitions.Gathered.{gather, defined, awaited_info, full_info, subtype_info, meant_by, constrained_shape, bound_pair, is_asked, are_static_bounds, constant_value, initial_value, with_type, own_info, with_indication, each, with_object, with_formal, with_formal_group, with_formals, with_result, with_front, with_body_front, is_subprogram, front_number, declared_number, declared_pos, in_hidden}
 use Rattle.settled_types.specs.Wholes.{written}
 use Rattle.settled_types.specs.Orderly.{Past, with_defined, definition_marks, within, past_after, IsNew, AllNew, NewGroup, NewFormals, NewFront, Completes, Orderly}
 use Rattle.settled_types.specs.Stamped.{IsType, AreRows, LeadsTo}

@@ -2,7 +2,7 @@
 -- has them.
 use Rattle.std.proofs.Common.{◌≡◌, inl, inr, ℕ, Bool, true, false, not, ◌&&◌, ◌||◌, List, [], ◌∷◌, ◌++◌, map, refl, sym, ap, ◌∙◌, subst, Option, Some, None, is_some, nat_eq, true≢false, if◌then◌else◌}
 use Rattle.std.specs.List.{flat_map}
-use Rattle.machine.specs.flow_paths.typed_tree.type_definitions.resolved_tree.spark_base.Lists.{Has}
+use Rattle.machine.specs.spark_base.Lists.{Has}
 use Rattle.spark_base.proofs.Lists.{Has-append_cases, Has-map}
 use Rattle.ada_tree.specs.declared.identifier.Identifier.{Identifier}
 use Rattle.ada_tree.specs.declared.identifier.NextIdentifier.{NextIdentifier}
@@ -45,9 +45,9 @@ use Rattle.name_events.specs.KnownBehind.{new_entry, declare, behind_declaration
 use Rattle.name_events.specs.Faults.{Fault, is_second_unit, is_second, is_incomplete, fault, name_fault}
 use Rattle.name_events.specs.Denotes.{Files, known_of}
 use Rattle.name_events.proofs.Searches.{same_is, declared_nowhere}
-use Rattle.machine.specs.flow_paths.typed_tree.type_definitions.resolved_tree.Trees.{NoMore, More, Code, code_list}
-use Rattle.machine.specs.flow_paths.typed_tree.type_definitions.Entries.{same_word}
-use Rattle.machine.specs.flow_paths.typed_tree.type_definitions.Gathered.{texts}
+use Rattle.machine.specs.resolved_tree.Trees.{NoMore, More, Code, code_list}
+use Rattle.machine.specs.type_definitions.Entries.{same_word}
+use Rattle.machine.specs.type_definitions.Gathered.{texts}
 use Rattle.expression_lowering.specs.LoweredExpressions.{Numbers}
 use Rattle.tree_lowering.specs.Lowered.{declared_next, declared_all, lowered_indication, lowered_subtype, lowered_type, lowered_declaration, item_before, before_all, lowered_formal, lowered_next_formal, lowered_formals, lowered_subspec, lowered_subprogram, decl_before, part_before, lowered_decls, lowered_private, lowered_package, lowered_package_body, lowered_unit, lowered_files}
 use Rattle.settled_types.specs.GatheredLaws.Components.{AreWordsApart}

@@ -3,7 +3,7 @@ use Rattle.std.proofs.Common.{◌≡◌, inl, inr, ℕ, Bool, true, false, List,
 use Rattle.std.specs.List.{flat_map}
 use Rattle.std.proofs.lemmas.Bool.{true≢false}
 use Rattle.std.specs.Prelude.{is_some}
-use Rattle.machine.specs.flow_paths.typed_tree.type_definitions.resolved_tree.spark_base.Lists.{Has}
+use Rattle.machine.specs.spark_base.Lists.{Has}
 use Rattle.spark_base.proofs.Lists.{Has-append_cases}
 use Rattle.ada_tree.specs.declared.identifier.Identifier.{Identifier}
 use Rattle.ada_tree.specs.declared.identifier.NextIdentifier.{NextIdentifier}
@@ -42,8 +42,8 @@ use Rattle.name_events.specs.Known.{Known}
 use Rattle.name_events.specs.KnownBehind.{known_behind, known_behind_all, known_at_first}
 use Rattle.name_events.specs.Faults.{Fault, fault, component_fault, name_fault}
 use Rattle.name_events.specs.Denotes.{Files, known_of}
-use Rattle.machine.specs.flow_paths.typed_tree.type_definitions.resolved_tree.Trees.{Code, code_list}
-use Rattle.machine.specs.flow_paths.typed_tree.type_definitions.Gathered.{texts}
+use Rattle.machine.specs.resolved_tree.Trees.{Code, code_list}
+use Rattle.machine.specs.type_definitions.Gathered.{texts}
 use Rattle.expression_lowering.specs.LoweredExpressions.{Numbers}
 use Rattle.tree_lowering.specs.Lowered.{component_next, lowered_component, lowered_subtype, lowered_type, lowered_declaration, item_before, before_all, lowered_items, lowered_simple, lowered_stmts, lowered_stmt_box, stmts_row, lowered_stmt, lowered_stmts_box, elsifs_row, lowered_elsif, lowered_when_box, whens_row, lowered_when, lowered_subprogram, decl_before, part_before, lowered_decls, lowered_private, lowered_package, lowered_package_body, lowered_unit, lowered_files}
 use Rattle.settled_types.specs.GatheredLaws.Components.{group_texts, list_texts, AreRecordsApart}

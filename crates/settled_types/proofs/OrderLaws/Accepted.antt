@@ -1,8 +1,8 @@
 -- The subprograms of an accepted program whose resolved code is orderly are in order.
 use Rattle.std.proofs.Common.{◌≡◌, None}
-use Rattle.machine.specs.flow_paths.typed_tree.type_definitions.resolved_tree.Trees.{Program}
-use Rattle.machine.specs.flow_paths.typed_tree.type_definitions.Types.{Table}
-use Rattle.machine.specs.flow_paths.typed_tree.type_definitions.Whole.{known_of, type_fault}
+use Rattle.machine.specs.resolved_tree.Trees.{Program}
+use Rattle.machine.specs.type_definitions.Types.{Table}
+use Rattle.machine.specs.type_definitions.Whole.{known_of, type_fault}
 use Rattle.machine.specs.flow_paths.declared.report.Effects.{Effects}
 use Rattle.soundness.specs.Typed.{OwnsByShape}
 use Rattle.soundness.specs.Sound.{Accepted}

@@ -4,13 +4,13 @@ use Rattle.std.proofs.Common.{◌≡◌, refl, sym, ap, ◌∙◌, inl, inr, ℕ
 use Rattle.std.specs.Prelude.{flat_map}
 use Rattle.std.proofs.lemmas.List.{append_assoc}
 use Rattle.std.proofs.lemmas.Bool.{false≢true}
-use Rattle.machine.specs.flow_paths.typed_tree.type_definitions.resolved_tree.spark_base.Lists.{Has}
-use Rattle.machine.specs.flow_paths.typed_tree.type_definitions.resolved_tree.spark_base.declared.position.Pos.{Pos}
-use Rattle.machine.specs.flow_paths.typed_tree.type_definitions.resolved_tree.Trees.{Code, Incomplete, Private, TypeDecl, Subtype, ConstrainedSubtype, Objects, Numbers, Instance, SubDecl, SubBody, Package, PackageBody, NoMore, More}
-use Rattle.machine.specs.flow_paths.typed_tree.type_definitions.Gathered.{in_hidden, declared_number}
-use Rattle.machine.specs.flow_paths.typed_tree.Expressions.{Site}
-use Rattle.machine.specs.flow_paths.typed_tree.Statements.{scope_count}
-use Rattle.machine.specs.flow_paths.typed_tree.Programs.{TypedSub, DeclaredObject, Home, objects_in, in_package, package_text, typed_sub, subs_in, placed, over_units}
+use Rattle.machine.specs.spark_base.Lists.{Has}
+use Rattle.machine.specs.spark_base.declared.position.Pos.{Pos}
+use Rattle.machine.specs.resolved_tree.Trees.{Code, Incomplete, Private, TypeDecl, Subtype, ConstrainedSubtype, Objects, Numbers, Instance, SubDecl, SubBody, Package, PackageBody, NoMore, More}
+use Rattle.machine.specs.type_definitions.Gathered.{in_hidden, declared_number}
+use Rattle.machine.specs.typed_tree.Expressions.{Site}
+use Rattle.machine.specs.typed_tree.Statements.{scope_count}
+use Rattle.machine.specs.typed_tree.Programs.{TypedSub, DeclaredObject, Home, objects_in, in_package, package_text, typed_sub, subs_in, placed, over_units}
 use Rattle.settled_types.specs.OrderLaws.ScopeLaws.Code as code
 use Rattle.settled_types.proofs.OrderLaws.ScopeLaws.Lists.{and_first, and_second}
 use Rattle.settled_types.specs.OrderLaws.Written.{is_declaration, are_declarations, are_statements, is_body, are_parts, is_procedure, is_unit}

@@ -2,19 +2,19 @@
 use Rattle.std.proofs.Common.{◌≡◌, refl, ℕ, ◌+◌, Bool, true, false, ◌&&◌, ◌||◌, List, [], ◌∷◌, ◌++◌, map}
 use Rattle.std.specs.List.{AllByRecursion}
 use Rattle.std.proofs.lemmas.Bool.{false≢true}
-use Rattle.machine.specs.flow_paths.typed_tree.type_definitions.resolved_tree.Trees.{Tree, Code, Incomplete, Private, TypeDecl, Subtype, ConstrainedSubtype, Objects, Numbers, Instance, SubDecl, Package, Skip, Assign, Call, Exit, Return, If, Branch, Case, When, Loop, While, For, Block, NoMore, More, code_items}
-use Rattle.machine.specs.flow_paths.typed_tree.type_definitions.resolved_tree.Trees as resolved
-use Rattle.machine.specs.flow_paths.typed_tree.type_definitions.declared.table.Entry.{Entry}
-use Rattle.machine.specs.flow_paths.typed_tree.type_definitions.declared.table.Entry.TheVariants as entry
-use Rattle.machine.specs.flow_paths.typed_tree.type_definitions.declared.table.Predefined.{Predefined}
-use Rattle.machine.specs.flow_paths.typed_tree.type_definitions.declared.table.Predefined.TheVariants as predefined
-use Rattle.machine.specs.flow_paths.typed_tree.type_definitions.Expressions.{call_arguments}
-use Rattle.machine.specs.flow_paths.typed_tree.type_definitions.resolved_tree.spark_base.declared.position.Pos.{Pos}
-use Rattle.machine.specs.flow_paths.typed_tree.type_definitions.Entries.{entry_of}
-use Rattle.machine.specs.flow_paths.typed_tree.Trees.{TypedTree, TypedCode, typed_code_list}
-use Rattle.machine.specs.flow_paths.typed_tree.Trees as typed
-use Rattle.machine.specs.flow_paths.typed_tree.Expressions.{Site}
-use Rattle.machine.specs.flow_paths.typed_tree.Statements.{scope_count, statements, typed_object, typed_call, call_of, predefined_call, typed_body}
+use Rattle.machine.specs.resolved_tree.Trees.{Tree, Code, Incomplete, Private, TypeDecl, Subtype, ConstrainedSubtype, Objects, Numbers, Instance, SubDecl, Package, Skip, Assign, Call, Exit, Return, If, Branch, Case, When, Loop, While, For, Block, NoMore, More, code_items}
+use Rattle.machine.specs.resolved_tree.Trees as resolved
+use Rattle.machine.specs.type_definitions.declared.table.Entry.{Entry}
+use Rattle.machine.specs.type_definitions.declared.table.Entry.TheVariants as entry
+use Rattle.machine.specs.type_definitions.declared.table.Predefined.{Predefined}
+use Rattle.machine.specs.type_definitions.declared.table.Predefined.TheVariants as predefined
+use Rattle.machine.specs.type_definitions.Expressions.{call_arguments}
+use Rattle.machine.specs.spark_base.declared.position.Pos.{Pos}
+use Rattle.machine.specs.type_definitions.Entries.{entry_of}
+use Rattle.machine.specs.typed_tree.Trees.{TypedTree, TypedCode, typed_code_list}
+use Rattle.machine.specs.typed_tree.Trees as typed
+use Rattle.machine.specs.typed_tree.Expressions.{Site}
+use Rattle.machine.specs.typed_tree.Statements.{scope_count, statements, typed_object, typed_call, call_of, predefined_call, typed_body}
 use Rattle.machine.specs.flow_paths.Scopes.{is_undeclaring}
 use Rattle.machine.specs.flow_paths.Scopes as flow
 use Rattle.settled_types.specs.OrderLaws.ScopeLaws.Code.{is_formed}

@@ -2,13 +2,13 @@
 use Rattle.std.proofs.Common.{◌≡◌, refl, subst, inl, inr, true, List, [], ◌∷◌, Option, Some, None, if◌then◌else◌, ap}
 use Rattle.std.specs.Prelude.{flat_map, is_some}
 use Rattle.std.proofs.lemmas.Bool.{true≢false}
-use Rattle.machine.specs.flow_paths.typed_tree.type_definitions.resolved_tree.spark_base.Lists.{Has}
-use Rattle.machine.specs.flow_paths.typed_tree.type_definitions.resolved_tree.Trees.{Code, Program}
-use Rattle.machine.specs.flow_paths.typed_tree.type_definitions.declared.judgement.Fault.{Fault}
-use Rattle.machine.specs.flow_paths.typed_tree.type_definitions.declared.table.Known.{Known}
-use Rattle.machine.specs.flow_paths.typed_tree.type_definitions.Faults.{precedes, noted, first}
-use Rattle.machine.specs.flow_paths.typed_tree.type_definitions.Declarations.{code_faults}
-use Rattle.machine.specs.flow_paths.typed_tree.type_definitions.Whole.{outside, known_of, known_with, main_faults, unit_faults, sentence_faults, type_sizes, TypeFault, decided, fault_known, told, type_fault}
+use Rattle.machine.specs.spark_base.Lists.{Has}
+use Rattle.machine.specs.resolved_tree.Trees.{Code, Program}
+use Rattle.machine.specs.type_definitions.declared.judgement.Fault.{Fault}
+use Rattle.machine.specs.type_definitions.declared.table.Known.{Known}
+use Rattle.machine.specs.type_definitions.Faults.{precedes, noted, first}
+use Rattle.machine.specs.type_definitions.Declarations.{code_faults}
+use Rattle.machine.specs.type_definitions.Whole.{outside, known_of, known_with, main_faults, unit_faults, sentence_faults, type_sizes, TypeFault, decided, fault_known, told, type_fault}
 use Rattle.settled_types.proofs.OrderLaws.Mains.{nothing_left, nothing_right}
 
 noted_some : (g : Fault) (faults : List Fault) → noted (Some g) faults ≡ None → ⊥

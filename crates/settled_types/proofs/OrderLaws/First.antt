@@ -2,14 +2,14 @@
 use Rattle.std.proofs.Common.{◌≡◌, refl, inl, inr, ℕ, ◌+◌, true, ◌||◌, List, [], ◌∷◌, ◌++◌}
 use Rattle.std.specs.List.{AllByRecursion}
 use Rattle.std.proofs.lemmas.Bool.{false≢true}
-use Rattle.machine.specs.flow_paths.typed_tree.type_definitions.resolved_tree.spark_base.Lists.{Has}
-use Rattle.machine.specs.flow_paths.typed_tree.type_definitions.resolved_tree.Trees.{Code, Incomplete, Private, TypeDecl, Subtype, ConstrainedSubtype, Objects, Numbers, Instance, SubDecl, SubBody, Package, PackageBody, NoMore, More}
-use Rattle.machine.specs.flow_paths.typed_tree.type_definitions.Gathered.{in_visible, in_hidden, declared_number, declared_text}
-use Rattle.machine.specs.flow_paths.typed_tree.Trees.{TypedCode, typed_code_list}
-use Rattle.machine.specs.flow_paths.typed_tree.Trees as typed
-use Rattle.machine.specs.flow_paths.typed_tree.Expressions.{Site}
-use Rattle.machine.specs.flow_paths.typed_tree.Statements.{scope_count, statements}
-use Rattle.machine.specs.flow_paths.typed_tree.Programs.{DeclaredObject, Home, objects_in, in_package, package_text, placed, elaborated, over_units}
+use Rattle.machine.specs.spark_base.Lists.{Has}
+use Rattle.machine.specs.resolved_tree.Trees.{Code, Incomplete, Private, TypeDecl, Subtype, ConstrainedSubtype, Objects, Numbers, Instance, SubDecl, SubBody, Package, PackageBody, NoMore, More}
+use Rattle.machine.specs.type_definitions.Gathered.{in_visible, in_hidden, declared_number, declared_text}
+use Rattle.machine.specs.typed_tree.Trees.{TypedCode, typed_code_list}
+use Rattle.machine.specs.typed_tree.Trees as typed
+use Rattle.machine.specs.typed_tree.Expressions.{Site}
+use Rattle.machine.specs.typed_tree.Statements.{scope_count, statements}
+use Rattle.machine.specs.typed_tree.Programs.{DeclaredObject, Home, objects_in, in_package, package_text, placed, elaborated, over_units}
 use Rattle.machine.specs.flow_paths.Laid.{declared_within}
 use Rattle.settled_types.proofs.OrderLaws.ScopeLaws.Lists.{and_first, and_second, both_true, all_both}
 use Rattle.settled_types.specs.OrderLaws.ReadyLaws.InOrder.{declares_only}

@@ -3,22 +3,22 @@ use Rattle.std.proofs.Common.{◌≡◌, refl, sym, ap, ◌∙◌, subst, inl, i
 use Rattle.std.specs.Prelude.{flat_map, is_some}
 use Rattle.std.specs.List.{position_or_len}
 use Rattle.std.proofs.lemmas.Bool.{false≢true}
-use Rattle.machine.specs.flow_paths.typed_tree.type_definitions.resolved_tree.spark_base.Lists.{Has}
+use Rattle.machine.specs.spark_base.Lists.{Has}
 use Rattle.spark_base.proofs.Lists.{Has-append_left, Has-append_right}
-use Rattle.machine.specs.flow_paths.typed_tree.type_definitions.resolved_tree.spark_base.declared.position.Pos.{Pos}
-use Rattle.machine.specs.flow_paths.typed_tree.type_definitions.resolved_tree.Trees.{Code, Front, SubBody, PackageBody, NoMore, More}
-use Rattle.machine.specs.flow_paths.typed_tree.type_definitions.declared.judgement.Fault.{Fault}
-use Rattle.machine.specs.flow_paths.typed_tree.type_definitions.declared.table.Known.{Known}
-use Rattle.machine.specs.flow_paths.typed_tree.type_definitions.declared.table.Profile.{Profile}
-use Rattle.machine.specs.flow_paths.typed_tree.type_definitions.Faults.{demand}
-use Rattle.machine.specs.flow_paths.typed_tree.type_definitions.Names.{Context}
-use Rattle.machine.specs.flow_paths.typed_tree.type_definitions.Entries.{entry_of}
-use Rattle.machine.specs.flow_paths.typed_tree.type_definitions.Expressions.{profile_of}
-use Rattle.machine.specs.flow_paths.typed_tree.type_definitions.Gathered.{front_number, in_hidden, declared_number, formal_infos, anonymous_result}
-use Rattle.machine.specs.flow_paths.typed_tree.type_definitions.Declarations.{code_faults, body_faults, front_faults, front_pos, agrees, in_body, same_formals, same_result}
-use Rattle.machine.specs.flow_paths.typed_tree.Expressions.{Site, sub_number}
-use Rattle.machine.specs.flow_paths.typed_tree.Statements.{scope_count}
-use Rattle.machine.specs.flow_paths.typed_tree.Programs.{TypedSub, subs_in, placed, bodies_in, over_units, main_of}
+use Rattle.machine.specs.spark_base.declared.position.Pos.{Pos}
+use Rattle.machine.specs.resolved_tree.Trees.{Code, Front, SubBody, PackageBody, NoMore, More}
+use Rattle.machine.specs.type_definitions.declared.judgement.Fault.{Fault}
+use Rattle.machine.specs.type_definitions.declared.table.Known.{Known}
+use Rattle.machine.specs.type_definitions.declared.table.Profile.{Profile}
+use Rattle.machine.specs.type_definitions.Faults.{demand}
+use Rattle.machine.specs.type_definitions.Names.{Context}
+use Rattle.machine.specs.type_definitions.Entries.{entry_of}
+use Rattle.machine.specs.type_definitions.Expressions.{profile_of}
+use Rattle.machine.specs.type_definitions.Gathered.{front_number, in_hidden, declared_number, formal_infos, anonymous_result}
+use Rattle.machine.specs.type_definitions.Declarations.{code_faults, body_faults, front_faults, front_pos, agrees, in_body, same_formals, same_result}
+use Rattle.machine.specs.typed_tree.Expressions.{Site, sub_number}
+use Rattle.machine.specs.typed_tree.Statements.{scope_count}
+use Rattle.machine.specs.typed_tree.Programs.{TypedSub, subs_in, placed, bodies_in, over_units, main_of}
 use Rattle.settled_types.proofs.OrderLaws.ScopeLaws.Lists.{and_second}
 use Rattle.settled_types.specs.OrderLaws.ReadyLaws.InOrder.{IsSub}
 use Rattle.settled_types.specs.OrderLaws.Written.{is_procedure}

@@ -3,22 +3,22 @@ use Rattle.std.proofs.Common.{◌≡◌, refl, sym, ap, ◌∙◌, ℕ, ◌+◌,
 use Rattle.std.specs.Prelude.{flat_map}
 use Rattle.std.proofs.lemmas.List.{append_assoc}
 use Rattle.std.proofs.lemmas.Bool.{false≢true}
-use Rattle.machine.specs.flow_paths.typed_tree.type_definitions.resolved_tree.place_names.declared.act.Mode.{Mode}
-use Rattle.machine.specs.flow_paths.typed_tree.type_definitions.resolved_tree.place_names.declared.act.Mode.TheVariants as mode
-use Rattle.machine.specs.flow_paths.typed_tree.type_definitions.resolved_tree.Trees.{Tree, Code, Incomplete, Private, TypeDecl, Subtype, ConstrainedSubtype, Objects, Numbers, Instance, Formals, SubDecl, Package, Skip, Assign, Call, Exit, Return, If, Branch, Case, When, Loop, While, For, Block, NoMore, More, code_items}
-use Rattle.machine.specs.flow_paths.typed_tree.type_definitions.resolved_tree.Trees as resolved
-use Rattle.machine.specs.flow_paths.typed_tree.type_definitions.declared.table.Entry.{Entry}
-use Rattle.machine.specs.flow_paths.typed_tree.type_definitions.declared.table.Entry.TheVariants as entry
-use Rattle.machine.specs.flow_paths.typed_tree.type_definitions.declared.table.Predefined.{Predefined}
-use Rattle.machine.specs.flow_paths.typed_tree.type_definitions.declared.table.Predefined.TheVariants as predefined
-use Rattle.machine.specs.flow_paths.typed_tree.type_definitions.Entries.{entry_of, integer, boolean}
-use Rattle.machine.specs.flow_paths.typed_tree.type_definitions.Expressions.{call_arguments}
-use Rattle.machine.specs.flow_paths.typed_tree.type_definitions.Gathered.{declared_number}
-use Rattle.machine.specs.flow_paths.typed_tree.Trees.{TypedTree, TypedCode, typed_code_list}
-use Rattle.machine.specs.flow_paths.typed_tree.Trees as typed
-use Rattle.machine.specs.flow_paths.typed_tree.Expressions.{Site, object_number, typed_expression}
-use Rattle.machine.specs.flow_paths.typed_tree.Statements.{scope_count, statements, typed_object, typed_call, call_of, predefined_call, typed_range, typed_choices, typed_body}
-use Rattle.machine.specs.flow_paths.typed_tree.Programs.{DeclaredObject, Home, objects_in, object_of, formals_of, formal_numbers}
+use Rattle.machine.specs.place_names.declared.act.Mode.{Mode}
+use Rattle.machine.specs.place_names.declared.act.Mode.TheVariants as mode
+use Rattle.machine.specs.resolved_tree.Trees.{Tree, Code, Incomplete, Private, TypeDecl, Subtype, ConstrainedSubtype, Objects, Numbers, Instance, Formals, SubDecl, Package, Skip, Assign, Call, Exit, Return, If, Branch, Case, When, Loop, While, For, Block, NoMore, More, code_items}
+use Rattle.machine.specs.resolved_tree.Trees as resolved
+use Rattle.machine.specs.type_definitions.declared.table.Entry.{Entry}
+use Rattle.machine.specs.type_definitions.declared.table.Entry.TheVariants as entry
+use Rattle.machine.specs.type_definitions.declared.table.Predefined.{Predefined}
+use Rattle.machine.specs.type_definitions.declared.table.Predefined.TheVariants as predefined
+use Rattle.machine.specs.type_definitions.Entries.{entry_of, integer, boolean}
+use Rattle.machine.specs.type_definitions.Expressions.{call_arguments}
+use Rattle.machine.specs.type_definitions.Gathered.{declared_number}
+use Rattle.machine.specs.typed_tree.Trees.{TypedTree, TypedCode, typed_code_list}
+use Rattle.machine.specs.typed_tree.Trees as typed
+use Rattle.machine.specs.typed_tree.Expressions.{Site, object_number, typed_expression}
+use Rattle.machine.specs.typed_tree.Statements.{scope_count, statements, typed_object, typed_call, call_of, predefined_call, typed_range, typed_choices, typed_body}
+use Rattle.machine.specs.typed_tree.Programs.{DeclaredObject, Home, objects_in, object_of, formals_of, formal_numbers}
 use Rattle.machine.specs.flow_paths.Laid.{declared_within}
 use Rattle.settled_types.proofs.OrderLaws.ScopeLaws.Lists.{and_first, and_second}
 use Rattle.settled_types.specs.OrderLaws.Written.{is_declaration, are_declarations, are_statements, is_statement, are_branches, is_branch, are_alternatives, is_alternative}

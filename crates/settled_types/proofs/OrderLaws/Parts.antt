@@ -2,11 +2,11 @@
 use Rattle.std.proofs.Common.{◌≡◌, refl, sym, ap, ◌∙◌, subst, ◌⊎◌, inl, inr, ℕ, ◌+◌, ◌≤◌, ◌<◌, Bool, true, false, not, cond, nat_eq, List, [], ◌∷◌, ◌++◌, map, length, get_or, append-nil, add-one, one-add, arith}
 use Rattle.std.specs.List.{position_or_len}
 use Rattle.std.proofs.lemmas.List.{length-map}
-use Rattle.machine.specs.flow_paths.typed_tree.type_definitions.resolved_tree.spark_base.Lists.{Has}
+use Rattle.machine.specs.spark_base.Lists.{Has}
 use Rattle.spark_base.proofs.Lists.{Has-map, Has-map_from}
-use Rattle.machine.specs.flow_paths.typed_tree.declared.object.Object.{Object}
-use Rattle.machine.specs.flow_paths.typed_tree.Expressions.{Site, object_number}
-use Rattle.machine.specs.flow_paths.typed_tree.Programs.{DeclaredObject, text_io}
+use Rattle.machine.specs.typed_tree.declared.object.Object.{Object}
+use Rattle.machine.specs.typed_tree.Expressions.{Site, object_number}
+use Rattle.machine.specs.typed_tree.Programs.{DeclaredObject, text_io}
 use Rattle.settled_types.specs.OrderLaws.ScopeLaws.Code.{Once}
 use Rattle.settled_types.proofs.OrderLaws.Numbers.{numbers}
 

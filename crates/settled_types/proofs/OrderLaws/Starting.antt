@@ -2,33 +2,33 @@
 use Rattle.std.proofs.Common.{◌≡◌, refl, ap, ◌∙◌, subst, ℕ, ◌+◌, Bool, true, false, not, ◌&&◌, nat_eq, List, [], ◌∷◌, ◌++◌, map, ℤ, if◌then◌else◌}
 use Rattle.std.specs.List.{AllByRecursion}
 use Rattle.std.proofs.lemmas.Bool.{false≢true}
-use Rattle.machine.specs.flow_paths.typed_tree.type_definitions.resolved_tree.spark_base.declared.position.Pos.{Pos}
-use Rattle.machine.specs.flow_paths.typed_tree.type_definitions.resolved_tree.declared.operator.Operator.{Operator}
-use Rattle.machine.specs.flow_paths.typed_tree.type_definitions.resolved_tree.declared.operator.Operator.TheVariants as operator
-use Rattle.machine.specs.flow_paths.typed_tree.type_definitions.resolved_tree.Trees.{Tree, Number, Text, Named, Parens, Unary, Binary, Aggregate, Others, New, Selected, All, Applied, Attr, Argument, position}
-use Rattle.machine.specs.flow_paths.typed_tree.type_definitions.resolved_tree.Trees as resolved
-use Rattle.machine.specs.flow_paths.typed_tree.type_definitions.declared.judgement.Fault.{Fault}
-use Rattle.machine.specs.flow_paths.typed_tree.type_definitions.declared.judgement.View.{View}
-use Rattle.machine.specs.flow_paths.typed_tree.type_definitions.declared.judgement.View.TheVariants as view
-use Rattle.machine.specs.flow_paths.typed_tree.type_definitions.declared.judgement.Next.{Next}
-use Rattle.machine.specs.flow_paths.typed_tree.type_definitions.declared.judgement.Next.TheVariants.{Goes, Gives, Stops}
-use Rattle.machine.specs.flow_paths.typed_tree.type_definitions.declared.judgement.Reading.{Reading}
-use Rattle.machine.specs.flow_paths.typed_tree.type_definitions.declared.judgement.Reading.TheVariants as reading
-use Rattle.machine.specs.flow_paths.typed_tree.type_definitions.declared.judgement.Role.{Role}
-use Rattle.machine.specs.flow_paths.typed_tree.type_definitions.declared.judgement.Way.{Way}
-use Rattle.machine.specs.flow_paths.typed_tree.type_definitions.declared.table.Entry.{Entry}
-use Rattle.machine.specs.flow_paths.typed_tree.type_definitions.declared.table.Entry.TheVariants as entry
-use Rattle.machine.specs.flow_paths.typed_tree.type_definitions.Types.{is_owning}
-use Rattle.machine.specs.flow_paths.typed_tree.type_definitions.Faults.{demand}
-use Rattle.machine.specs.flow_paths.typed_tree.type_definitions.Entries.{entry_of, integer}
-use Rattle.machine.specs.flow_paths.typed_tree.type_definitions.Names.{Context, seen, step, through, led_on, along, of_type, of_entry, reading_of}
-use Rattle.machine.specs.flow_paths.typed_tree.type_definitions.Statics.{is_alone}
-use Rattle.machine.specs.flow_paths.typed_tree.type_definitions.Expressions.{Given, all_by_position, root_owning, reading_faults, given_names, call_arguments, way_of, onward, around, around_parens, around_operands, around_role, is_loose, role_type, aggregates, parts_role, repeats, repeated_type, mark_faults, inside, arguments, within_suffix, behind, unary_type, operand_type, is_null}
-use Rattle.machine.specs.flow_paths.typed_tree.type_definitions.declared.judgement.Where.TheVariants as stands
-use Rattle.machine.specs.flow_paths.typed_tree.type_definitions.Gathered.{natural_of}
-use Rattle.machine.specs.flow_paths.typed_tree.Trees.{TypedTree, typed_list}
-use Rattle.machine.specs.flow_paths.typed_tree.Trees as typed
-use Rattle.machine.specs.flow_paths.typed_tree.Expressions.{Site, object_number, number, value_of_type, designating, element, typed_name, operands, has_name, named_value, arranged, typed_expression, typed_steps, typed_step, typed_actuals, typed_imaged, typed_first, typed_values}
+use Rattle.machine.specs.spark_base.declared.position.Pos.{Pos}
+use Rattle.machine.specs.resolved_tree.declared.operator.Operator.{Operator}
+use Rattle.machine.specs.resolved_tree.declared.operator.Operator.TheVariants as operator
+use Rattle.machine.specs.resolved_tree.Trees.{Tree, Number, Text, Named, Parens, Unary, Binary, Aggregate, Others, New, Selected, All, Applied, Attr, Argument, position}
+use Rattle.machine.specs.resolved_tree.Trees as resolved
+use Rattle.machine.specs.type_definitions.declared.judgement.Fault.{Fault}
+use Rattle.machine.specs.type_definitions.declared.judgement.View.{View}
+use Rattle.machine.specs.type_definitions.declared.judgement.View.TheVariants as view
+use Rattle.machine.specs.type_definitions.declared.judgement.Next.{Next}
+use Rattle.machine.specs.type_definitions.declared.judgement.Next.TheVariants.{Goes, Gives, Stops}
+use Rattle.machine.specs.type_definitions.declared.judgement.Reading.{Reading}
+use Rattle.machine.specs.type_definitions.declared.judgement.Reading.TheVariants as reading
+use Rattle.machine.specs.type_definitions.declared.judgement.Role.{Role}
+use Rattle.machine.specs.type_definitions.declared.judgement.Way.{Way}
+use Rattle.machine.specs.type_definitions.declared.table.Entry.{Entry}
+use Rattle.machine.specs.type_definitions.declared.table.Entry.TheVariants as entry
+use Rattle.machine.specs.type_definitions.Types.{is_owning}
+use Rattle.machine.specs.type_definitions.Faults.{demand}
+use Rattle.machine.specs.type_definitions.Entries.{entry_of, integer}
+use Rattle.machine.specs.type_definitions.Names.{Context, seen, step, through, led_on, along, of_type, of_entry, reading_of}
+use Rattle.machine.specs.type_definitions.Statics.{is_alone}
+use Rattle.machine.specs.type_definitions.Expressions.{Given, all_by_position, root_owning, reading_faults, given_names, call_arguments, way_of, onward, around, around_parens, around_operands, around_role, is_loose, role_type, aggregates, parts_role, repeats, repeated_type, mark_faults, inside, arguments, within_suffix, behind, unary_type, operand_type, is_null}
+use Rattle.machine.specs.type_definitions.declared.judgement.Where.TheVariants as stands
+use Rattle.machine.specs.type_definitions.Gathered.{natural_of}
+use Rattle.machine.specs.typed_tree.Trees.{TypedTree, typed_list}
+use Rattle.machine.specs.typed_tree.Trees as typed
+use Rattle.machine.specs.typed_tree.Expressions.{Site, object_number, number, value_of_type, designating, element, typed_name, operands, has_name, named_value, arranged, typed_expression, typed_steps, typed_step, typed_actuals, typed_imaged, typed_first, typed_values}
 use Rattle.machine.specs.flow_paths.Objects.{Typing, object_at}
 use Rattle.settled_types.specs.OrderLaws.ScopeLaws.Code.{roots}
 use Rattle.settled_types.proofs.OrderLaws.ScopeLaws.Lists.{and_first, and_second, both_true}

@@ -4,17 +4,17 @@ use Rattle.std.specs.Prelude.{flat_map}
 use Rattle.std.specs.List.{AllByRecursion, position_or_len}
 use Rattle.std.proofs.lemmas.List.{append_assoc}
 use Rattle.std.proofs.lemmas.Bool.{false≢true}
-use Rattle.machine.specs.flow_paths.typed_tree.type_definitions.resolved_tree.spark_base.Lists.{Has}
+use Rattle.machine.specs.spark_base.Lists.{Has}
 use Rattle.spark_base.proofs.Lists.{Has-append_cases}
-use Rattle.machine.specs.flow_paths.typed_tree.type_definitions.resolved_tree.spark_base.declared.position.Pos.{Pos}
-use Rattle.machine.specs.flow_paths.typed_tree.type_definitions.resolved_tree.Trees.{Code, Incomplete, Private, TypeDecl, Subtype, ConstrainedSubtype, Objects, Numbers, Instance, Formals, SubDecl, SubBody, Package, PackageBody, Skip, Assign, Call, Exit, Return, If, Branch, Case, When, Loop, While, For, Block, NoMore, More, code_items}
-use Rattle.machine.specs.flow_paths.typed_tree.type_definitions.resolved_tree.place_names.declared.act.Mode.{Mode}
-use Rattle.machine.specs.flow_paths.typed_tree.type_definitions.resolved_tree.place_names.declared.act.Mode.TheVariants as mode
-use Rattle.machine.specs.flow_paths.typed_tree.type_definitions.Gathered.{in_hidden, in_subprogram, declared_number}
-use Rattle.machine.specs.flow_paths.typed_tree.Expressions.{Site, object_number}
+use Rattle.machine.specs.spark_base.declared.position.Pos.{Pos}
+use Rattle.machine.specs.resolved_tree.Trees.{Code, Incomplete, Private, TypeDecl, Subtype, ConstrainedSubtype, Objects, Numbers, Instance, Formals, SubDecl, SubBody, Package, PackageBody, Skip, Assign, Call, Exit, Return, If, Branch, Case, When, Loop, While, For, Block, NoMore, More, code_items}
+use Rattle.machine.specs.place_names.declared.act.Mode.{Mode}
+use Rattle.machine.specs.place_names.declared.act.Mode.TheVariants as mode
+use Rattle.machine.specs.type_definitions.Gathered.{in_hidden, in_subprogram, declared_number}
+use Rattle.machine.specs.typed_tree.Expressions.{Site, object_number}
 use Rattle.machine.specs.flow_paths.Laid.{declared_within}
-use Rattle.machine.specs.flow_paths.typed_tree.Statements.{scope_count, typed_body}
-use Rattle.machine.specs.flow_paths.typed_tree.Programs.{TypedSub, DeclaredObject, Home, objects_in, object_of, formals_of, front_formals, local, in_package, package_text, typed_sub, subs_in, placed, over_units}
+use Rattle.machine.specs.typed_tree.Statements.{scope_count, typed_body}
+use Rattle.machine.specs.typed_tree.Programs.{TypedSub, DeclaredObject, Home, objects_in, object_of, formals_of, front_formals, local, in_package, package_text, typed_sub, subs_in, placed, over_units}
 use Rattle.settled_types.specs.OrderLaws.ScopeLaws.Code as code
 use Rattle.settled_types.proofs.OrderLaws.ScopeLaws.Lists.{and_first, and_second, all_both}
 use Rattle.settled_types.specs.OrderLaws.Written.{is_declaration, are_declarations, are_statements, is_statement, are_branches, is_branch, are_alternatives, is_alternative, is_body, are_parts, is_procedure, is_unit}

@@ -3,29 +3,29 @@ use Rattle.std.proofs.Common.{◌≡◌, refl, sym, ap, ◌∙◌, subst, ◌⊎
 use Rattle.std.specs.Prelude.{flat_map, is_none}
 use Rattle.std.specs.List.{AllByRecursion, position_or_len}
 use Rattle.std.proofs.lemmas.Bool.{false≢true}
-use Rattle.machine.specs.flow_paths.typed_tree.type_definitions.resolved_tree.spark_base.Lists.{Has}
-use Rattle.machine.specs.flow_paths.typed_tree.type_definitions.resolved_tree.place_names.declared.act.Mode.{Mode}
-use Rattle.machine.specs.flow_paths.typed_tree.type_definitions.resolved_tree.place_names.declared.act.Mode.TheVariants as mode
-use Rattle.machine.specs.flow_paths.typed_tree.type_definitions.resolved_tree.Trees.{Tree, Code, Incomplete, Private, TypeDecl, Subtype, ConstrainedSubtype, Objects, Numbers, Instance, Formals, SubDecl, SubBody, Package, PackageBody, If, Branch, Case, When, Loop, While, For, Block, NoMore, More, code_items}
-use Rattle.machine.specs.flow_paths.typed_tree.type_definitions.resolved_tree.Trees as resolved
-use Rattle.machine.specs.flow_paths.typed_tree.type_definitions.declared.judgement.Fault.{Fault}
-use Rattle.machine.specs.flow_paths.typed_tree.type_definitions.declared.judgement.Where.TheVariants as stands
-use Rattle.machine.specs.flow_paths.typed_tree.type_definitions.declared.table.Entry.{Entry}
-use Rattle.machine.specs.flow_paths.typed_tree.type_definitions.declared.table.Entry.TheVariants as entry
-use Rattle.machine.specs.flow_paths.typed_tree.type_definitions.declared.table.Known.{Known}
-use Rattle.machine.specs.flow_paths.typed_tree.type_definitions.Types.{is_owning}
-use Rattle.machine.specs.flow_paths.typed_tree.type_definitions.Faults.{demand}
-use Rattle.machine.specs.flow_paths.typed_tree.type_definitions.Entries.{entry_of, integer}
-use Rattle.machine.specs.flow_paths.typed_tree.type_definitions.Expressions.{root_owning, around, inside}
-use Rattle.machine.specs.flow_paths.typed_tree.type_definitions.Statements.{static_faults}
-use Rattle.machine.specs.flow_paths.typed_tree.type_definitions.Declarations.{code_faults, starting, in_package as is_in_package, first_pos, is_single, has_one, initial_faults, objects_faults, indication_faults}
-use Rattle.machine.specs.flow_paths.typed_tree.type_definitions.Gathered.{is_anonymous_indication, in_visible, in_hidden, declared_number, declared_text}
-use Rattle.machine.specs.flow_paths.typed_tree.type_definitions.Whole.{outside}
-use Rattle.machine.specs.flow_paths.typed_tree.Trees.{TypedTree, TypedCode, typed_code_list}
-use Rattle.machine.specs.flow_paths.typed_tree.Trees as typed
-use Rattle.machine.specs.flow_paths.typed_tree.Expressions.{Site, object_type, object_number, typed_expression, typed_optional}
-use Rattle.machine.specs.flow_paths.typed_tree.Statements.{scope_count, statements, typed_object}
-use Rattle.machine.specs.flow_paths.typed_tree.Programs.{DeclaredObject, Home, objects_in, object_of, formals_of, front_formals, local, in_package, package_text, program_objects, text_io, site_of, placed, elaborated, elaboration, over_units, typed_program}
+use Rattle.machine.specs.spark_base.Lists.{Has}
+use Rattle.machine.specs.place_names.declared.act.Mode.{Mode}
+use Rattle.machine.specs.place_names.declared.act.Mode.TheVariants as mode
+use Rattle.machine.specs.resolved_tree.Trees.{Tree, Code, Incomplete, Private, TypeDecl, Subtype, ConstrainedSubtype, Objects, Numbers, Instance, Formals, SubDecl, SubBody, Package, PackageBody, If, Branch, Case, When, Loop, While, For, Block, NoMore, More, code_items}
+use Rattle.machine.specs.resolved_tree.Trees as resolved
+use Rattle.machine.specs.type_definitions.declared.judgement.Fault.{Fault}
+use Rattle.machine.specs.type_definitions.declared.judgement.Where.TheVariants as stands
+use Rattle.machine.specs.type_definitions.declared.table.Entry.{Entry}
+use Rattle.machine.specs.type_definitions.declared.table.Entry.TheVariants as entry
+use Rattle.machine.specs.type_definitions.declared.table.Known.{Known}
+use Rattle.machine.specs.type_definitions.Types.{is_owning}
+use Rattle.machine.specs.type_definitions.Faults.{demand}
+use Rattle.machine.specs.type_definitions.Entries.{entry_of, integer}
+use Rattle.machine.specs.type_definitions.Expressions.{root_owning, around, inside}
+use Rattle.machine.specs.type_definitions.Statements.{static_faults}
+use Rattle.machine.specs.type_definitions.Declarations.{code_faults, starting, in_package as is_in_package, first_pos, is_single, has_one, initial_faults, objects_faults, indication_faults}
+use Rattle.machine.specs.type_definitions.Gathered.{is_anonymous_indication, in_visible, in_hidden, declared_number, declared_text}
+use Rattle.machine.specs.type_definitions.Whole.{outside}
+use Rattle.machine.specs.typed_tree.Trees.{TypedTree, TypedCode, typed_code_list}
+use Rattle.machine.specs.typed_tree.Trees as typed
+use Rattle.machine.specs.typed_tree.Expressions.{Site, object_type, object_number, typed_expression, typed_optional}
+use Rattle.machine.specs.typed_tree.Statements.{scope_count, statements, typed_object}
+use Rattle.machine.specs.typed_tree.Programs.{DeclaredObject, Home, objects_in, object_of, formals_of, front_formals, local, in_package, package_text, program_objects, text_io, site_of, placed, elaborated, elaboration, over_units, typed_program}
 use Rattle.machine.specs.flow_paths.Objects.{Typing, object_at}
 use Rattle.machine.specs.flow_paths.Laid.{typing_of}
 use Rattle.settled_types.specs.OrderLaws.ScopeLaws.Code.{roots}

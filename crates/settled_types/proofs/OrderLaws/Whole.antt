@@ -4,27 +4,27 @@ use Rattle.std.proofs.Common.{◌≡◌, refl, sym, ap, ◌∙◌, subst, inl, i
 use Rattle.std.specs.Prelude.{flat_map, is_some}
 use Rattle.std.specs.List.{AllByRecursion}
 use Rattle.std.proofs.lemmas.List.{length-map}
-use Rattle.machine.specs.flow_paths.typed_tree.type_definitions.resolved_tree.spark_base.Lists.{Has}
+use Rattle.machine.specs.spark_base.Lists.{Has}
 use Rattle.spark_base.proofs.Lists.{Has-append_left, Has-append_right, Has-append_cases, Has-map}
-use Rattle.machine.specs.flow_paths.typed_tree.type_definitions.resolved_tree.place_names.declared.act.Mode.{Mode}
-use Rattle.machine.specs.flow_paths.typed_tree.type_definitions.resolved_tree.place_names.declared.act.Mode.TheVariants as mode
-use Rattle.machine.specs.flow_paths.typed_tree.type_definitions.resolved_tree.Trees.{Code, Objects, Numbers, Formals, SubBody, Package, PackageBody, If, Branch, Case, When, Loop, While, For, Block, More, code_items}
-use Rattle.machine.specs.flow_paths.typed_tree.type_definitions.declared.table.Kind.{Kind}
-use Rattle.machine.specs.flow_paths.typed_tree.type_definitions.declared.table.Kind.TheVariants as kind
-use Rattle.machine.specs.flow_paths.typed_tree.type_definitions.declared.table.Known.{Known}
-use Rattle.machine.specs.flow_paths.typed_tree.type_definitions.declared.table.Entry.{Entry}
-use Rattle.machine.specs.flow_paths.typed_tree.type_definitions.declared.table.Entry.TheVariants as entry
-use Rattle.machine.specs.flow_paths.typed_tree.type_definitions.Types.{Table, full, is_scalar}
-use Rattle.machine.specs.flow_paths.typed_tree.type_definitions.Entries.{entry_of}
-use Rattle.machine.specs.flow_paths.typed_tree.type_definitions.Gathered.{declared_number, declared_text}
-use Rattle.machine.specs.flow_paths.typed_tree.type_definitions.Declarations.{code_faults}
-use Rattle.machine.specs.flow_paths.typed_tree.type_definitions.Whole.{outside}
-use Rattle.machine.specs.flow_paths.typed_tree.declared.object.Object.{Object}
-use Rattle.machine.specs.flow_paths.typed_tree.Trees.{TypedCode}
-use Rattle.machine.specs.flow_paths.typed_tree.Trees as typed
-use Rattle.machine.specs.flow_paths.typed_tree.Expressions.{Site}
-use Rattle.machine.specs.flow_paths.typed_tree.Statements.{scope_count}
-use Rattle.machine.specs.flow_paths.typed_tree.Programs.{TypedSub, TypedProgram, DeclaredObject, Home, objects_in, object_of, formals_of, front_formals, local, in_package, package_text, kind_of, entry_kind, program_objects, text_io, site_of, subs_in, elaborated, elaboration, over_units, typed_program}
+use Rattle.machine.specs.place_names.declared.act.Mode.{Mode}
+use Rattle.machine.specs.place_names.declared.act.Mode.TheVariants as mode
+use Rattle.machine.specs.resolved_tree.Trees.{Code, Objects, Numbers, Formals, SubBody, Package, PackageBody, If, Branch, Case, When, Loop, While, For, Block, More, code_items}
+use Rattle.machine.specs.type_definitions.declared.table.Kind.{Kind}
+use Rattle.machine.specs.type_definitions.declared.table.Kind.TheVariants as kind
+use Rattle.machine.specs.type_definitions.declared.table.Known.{Known}
+use Rattle.machine.specs.type_definitions.declared.table.Entry.{Entry}
+use Rattle.machine.specs.type_definitions.declared.table.Entry.TheVariants as entry
+use Rattle.machine.specs.type_definitions.Types.{Table, full, is_scalar}
+use Rattle.machine.specs.type_definitions.Entries.{entry_of}
+use Rattle.machine.specs.type_definitions.Gathered.{declared_number, declared_text}
+use Rattle.machine.specs.type_definitions.Declarations.{code_faults}
+use Rattle.machine.specs.type_definitions.Whole.{outside}
+use Rattle.machine.specs.typed_tree.declared.object.Object.{Object}
+use Rattle.machine.specs.typed_tree.Trees.{TypedCode}
+use Rattle.machine.specs.typed_tree.Trees as typed
+use Rattle.machine.specs.typed_tree.Expressions.{Site}
+use Rattle.machine.specs.typed_tree.Statements.{scope_count}
+use Rattle.machine.specs.typed_tree.Programs.{TypedSub, TypedProgram, DeclaredObject, Home, objects_in, object_of, formals_of, front_formals, local, in_package, package_text, kind_of, entry_kind, program_objects, text_io, site_of, subs_in, elaborated, elaboration, over_units, typed_program}
 use Rattle.machine.specs.flow_paths.Objects.{Typing, object_at, is_formal, is_package_object, is_state}
 use Rattle.machine.specs.flow_paths.Points.{NamedPoint, entry}
 use Rattle.machine.specs.flow_paths.Layout.{laid}

@@ -2,8 +2,8 @@
 use Rattle.std.proofs.Common.{◌≡◌, ◌⊎◌, inl, inr, ℕ, ◌<◌, ◌≤◌, Bool, true, false, not, ◌&&◌, List, [], ◌∷◌, ◌++◌, refl, sym, ap, ◌∙◌, arith, length, nat_eq, Option, Some, None, true≢false, subst, if◌then◌else◌}
 use Rattle.std.specs.Prelude.{slice_get}
 use Rattle.std.proofs.lemmas.Option.{slice_get_within}
-use Rattle.machine.specs.flow_paths.typed_tree.type_definitions.resolved_tree.spark_base.declared.position.Pos.{Pos}
-use Rattle.machine.specs.flow_paths.typed_tree.type_definitions.resolved_tree.spark_base.Lists.{Has}
+use Rattle.machine.specs.spark_base.declared.position.Pos.{Pos}
+use Rattle.machine.specs.spark_base.Lists.{Has}
 use Rattle.name_events.specs.declared.event.Event.{Event}
 use Rattle.name_events.specs.declared.event.Event.TheVariants as e
 use Rattle.name_events.specs.declared.event.FoldedIdentifier.{FoldedIdentifier}
@@ -18,7 +18,7 @@ use Rattle.name_events.specs.Known.{Known, here, part_here}
 use Rattle.name_events.specs.Completions.{completed_by, completes_form, awaits}
 use Rattle.name_events.specs.KnownBehind.{known_behind, known_behind_all, behind_declaration, declare, new_entry}
 use Rattle.name_events.specs.Identified.{number_declared, completed_or_next}
-use Rattle.machine.specs.flow_paths.typed_tree.type_definitions.Faults.{is_before}
+use Rattle.machine.specs.type_definitions.Faults.{is_before}
 use Rattle.settled_types.specs.Orderly.{Past, without, with_defined, IsNew, Completes}
 use Rattle.settled_types.specs.OrderlyFiles.Regions.{AreRegions, IsTypeAt, AreTypes, HasPrivates, IsQuiet}
 use Rattle.settled_types.specs.OrderlyFiles.Numbered.{IsNumbered, AreNumbered, is_quiet, all_quiet, is_flat, all_flat, IsNewAt, AreNewAt}

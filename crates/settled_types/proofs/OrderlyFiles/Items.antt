@@ -1,8 +1,8 @@
 -- The code of items is in order.
 use Rattle.std.proofs.Common.{◌≡◌, ◌⊎◌, inl, inr, ℕ, ◌<◌, Bool, true, false, List, [], ◌∷◌, ◌++◌, map, refl, sym, ap, ◌∙◌, Option, Some, None, is_some, true≢false, subst, if◌then◌else◌}
 use Rattle.std.specs.List.{flat_map}
-use Rattle.machine.specs.flow_paths.typed_tree.type_definitions.resolved_tree.spark_base.declared.position.Pos.{Pos}
-use Rattle.machine.specs.flow_paths.typed_tree.type_definitions.resolved_tree.spark_base.Lists.{Has}
+use Rattle.machine.specs.spark_base.declared.position.Pos.{Pos}
+use Rattle.machine.specs.spark_base.Lists.{Has}
 use Rattle.ada_tree.specs.declared.identifier.Identifier.{Identifier}
 use Rattle.ada_tree.specs.declared.identifier.NextIdentifier.{NextIdentifier}
 use Rattle.ada_tree.specs.declared.identifier.NextIdentifier.TheVariants as next_id
@@ -12,8 +12,8 @@ use Rattle.ada_tree.specs.declared.declaration.Indication.{Indication}
 use Rattle.ada_tree.specs.declared.declaration.Indication.TheVariants as indication
 use Rattle.ada_tree.specs.declared.declaration.Item.{Item}
 use Rattle.ada_tree.specs.declared.declaration.Item.TheVariants as item
-use Rattle.machine.specs.flow_paths.typed_tree.type_definitions.resolved_tree.Trees.{Code, code_list}
-use Rattle.machine.specs.flow_paths.typed_tree.type_definitions.resolved_tree.Trees as t
+use Rattle.machine.specs.resolved_tree.Trees.{Code, code_list}
+use Rattle.machine.specs.resolved_tree.Trees as t
 use Rattle.name_events.specs.declared.event.Event.{Event}
 use Rattle.name_events.specs.declared.event.Event.TheVariants as e
 use Rattle.name_events.specs.declared.event.Clause.TheVariants as clause

@@ -1,7 +1,7 @@
 -- The code of statements is in order.
 use Rattle.std.proofs.Common.{◌≡◌, ℕ, true, false, List, [], ◌∷◌, ◌++◌, drop, map, refl, sym, ap, ◌∙◌, subst, append_assoc}
 use Rattle.std.specs.List.{flat_map}
-use Rattle.machine.specs.flow_paths.typed_tree.type_definitions.resolved_tree.spark_base.declared.position.Pos.{Pos}
+use Rattle.machine.specs.spark_base.declared.position.Pos.{Pos}
 use Rattle.ada_tree.specs.declared.declaration.Item.{Item}
 use Rattle.ada_tree.specs.declared.declaration.Item.TheVariants as item
 use Rattle.ada_tree.specs.declared.declaration.UseClause.{UseClause}
@@ -14,7 +14,7 @@ use Rattle.ada_tree.specs.declared.statement.Elsif.{Elsif}
 use Rattle.ada_tree.specs.declared.statement.Elsif.TheVariants as branch
 use Rattle.ada_tree.specs.declared.statement.When.{When}
 use Rattle.ada_tree.specs.declared.statement.When.TheVariants as alternative
-use Rattle.machine.specs.flow_paths.typed_tree.type_definitions.resolved_tree.Trees.{Code, code_list}
+use Rattle.machine.specs.resolved_tree.Trees.{Code, code_list}
 use Rattle.name_events.specs.declared.event.Event.{Event}
 use Rattle.name_events.specs.declared.event.Event.TheVariants as e
 use Rattle.name_events.specs.declared.event.Clause.{Clause}

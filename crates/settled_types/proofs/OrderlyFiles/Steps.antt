@@ -4,7 +4,7 @@ use Rattle.std.specs.Prelude.{slice_get, nat_le, unwrap_or, is_some}
 use Rattle.std.specs.Option.{option_map}
 use Rattle.std.proofs.lemmas.List.Folds.{list_any-append}
 use Rattle.std.proofs.lemmas.Bool.{false≢true}
-use Rattle.machine.specs.flow_paths.typed_tree.type_definitions.resolved_tree.spark_base.Lists.{Has}
+use Rattle.machine.specs.spark_base.Lists.{Has}
 use Rattle.spark_base.proofs.Lists.{Has-filter, Has-append_cases}
 use Rattle.name_events.specs.declared.event.Event.{Event}
 use Rattle.name_events.specs.declared.event.Event.TheVariants as e

@@ -24,7 +24,7 @@ use Rattle.ada_tree.specs.declared.unit.PackageBody.{PackageBody}
 use Rattle.ada_tree.specs.declared.unit.BodyPart.{BodyPart}
 use Rattle.ada_tree.specs.declared.unit.BodyPart.TheVariants as body_part
 use Rattle.ada_tree.specs.declared.unit.SubprogramBody.{SubprogramBody}
-use Rattle.machine.specs.flow_paths.typed_tree.type_definitions.resolved_tree.Trees.{Code, code_list}
+use Rattle.machine.specs.resolved_tree.Trees.{Code, code_list}
 use Rattle.name_events.specs.declared.event.Event.{Event}
 use Rattle.name_events.specs.declared.event.Event.TheVariants as e
 use Rattle.name_events.specs.declared.event.Clause.TheVariants as clause

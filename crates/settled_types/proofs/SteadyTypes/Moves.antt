@@ -1,17 +1,17 @@
 -- What gathering makes of entries is of the same classes in both turns.
 use Rattle.std.proofs.Common.{◌≡◌, ℕ, zero, suc, ◌+◌, Bool, true, false, List, [], ◌∷◌, ◌++◌, set, get_or, refl, sym, ap, ◌∙◌, Option, Some, None, pos}
-use Rattle.machine.specs.flow_paths.typed_tree.type_definitions.resolved_tree.declared.node.Mark.{Mark}
-use Rattle.machine.specs.flow_paths.typed_tree.type_definitions.resolved_tree.Trees.{More, Code, Anonymous, Enumeration, Record, Components, Array, Access, Formals}
-use Rattle.machine.specs.flow_paths.typed_tree.type_definitions.declared.table.Info.{Info}
-use Rattle.machine.specs.flow_paths.typed_tree.type_definitions.declared.table.InitialValue.{InitialValue}
-use Rattle.machine.specs.flow_paths.typed_tree.type_definitions.declared.table.Shape.TheVariants as shape
-use Rattle.machine.specs.flow_paths.typed_tree.type_definitions.declared.table.Kind.TheVariants as kind
-use Rattle.machine.specs.flow_paths.typed_tree.type_definitions.declared.table.Entry.{Entry}
-use Rattle.machine.specs.flow_paths.typed_tree.type_definitions.declared.table.Entry.TheVariants as entry
-use Rattle.machine.specs.flow_paths.typed_tree.type_definitions.Types.{untyped}
-use Rattle.machine.specs.flow_paths.typed_tree.type_definitions.Entries.{entry_of, type_of_entry, type_of_mark, marked}
-use Rattle.machine.specs.flow_paths.typed_tree.type_definitions.Names.{Context}
-use Rattle.machine.specs.flow_paths.typed_tree.type_definitions.Gathered.{each, declared_number, own_info, indicated, with_entry, with_info, with_indication, with_literals, with_definition, with_object, object_info, with_number, number_info, plain_object, with_formal, with_formal_group, with_result, is_subprogram, component_group, component_groups, component_list, defined}
+use Rattle.machine.specs.resolved_tree.declared.node.Mark.{Mark}
+use Rattle.machine.specs.resolved_tree.Trees.{More, Code, Anonymous, Enumeration, Record, Components, Array, Access, Formals}
+use Rattle.machine.specs.type_definitions.declared.table.Info.{Info}
+use Rattle.machine.specs.type_definitions.declared.table.InitialValue.{InitialValue}
+use Rattle.machine.specs.type_definitions.declared.table.Shape.TheVariants as shape
+use Rattle.machine.specs.type_definitions.declared.table.Kind.TheVariants as kind
+use Rattle.machine.specs.type_definitions.declared.table.Entry.{Entry}
+use Rattle.machine.specs.type_definitions.declared.table.Entry.TheVariants as entry
+use Rattle.machine.specs.type_definitions.Types.{untyped}
+use Rattle.machine.specs.type_definitions.Entries.{entry_of, type_of_entry, type_of_mark, marked}
+use Rattle.machine.specs.type_definitions.Names.{Context}
+use Rattle.machine.specs.type_definitions.Gathered.{each, declared_number, own_info, indicated, with_entry, with_info, with_indication, with_literals, with_definition, with_object, object_info, with_number, number_info, plain_object, with_formal, with_formal_group, with_result, is_subprogram, component_group, component_groups, component_list, defined}
 use Rattle.settled_types.specs.SteadyTypes.Alike.{outline}
 
 -- ---- classes of entries

@@ -1,11 +1,11 @@
 -- What alike tables say of a type, and one row more.
 use Rattle.std.proofs.Common.{◌≡◌, ℕ, zero, suc, ◌≤◌, List, [], ◌∷◌, set, refl, sym, ap, ◌∙◌, arith, Option, Some, None}
 use Rattle.std.specs.Prelude.{slice_get}
-use Rattle.machine.specs.flow_paths.typed_tree.type_definitions.declared.table.Info.{Info}
-use Rattle.machine.specs.flow_paths.typed_tree.type_definitions.declared.table.Shape.{Shape}
-use Rattle.machine.specs.flow_paths.typed_tree.type_definitions.declared.table.Shape.TheVariants as shape
-use Rattle.machine.specs.flow_paths.typed_tree.type_definitions.Types.{Table, info_found, base, base_found, meant_type, meant_type_found, same_as, shape_found}
-use Rattle.machine.specs.flow_paths.typed_tree.type_definitions.Gathered.{meant_by}
+use Rattle.machine.specs.type_definitions.declared.table.Info.{Info}
+use Rattle.machine.specs.type_definitions.declared.table.Shape.{Shape}
+use Rattle.machine.specs.type_definitions.declared.table.Shape.TheVariants as shape
+use Rattle.machine.specs.type_definitions.Types.{Table, info_found, base, base_found, meant_type, meant_type_found, same_as, shape_found}
+use Rattle.machine.specs.type_definitions.Gathered.{meant_by}
 use Rattle.settled_types.specs.SteadyTypes.Alike.{outline, Outline, outlined, AreAlike}
 
 pub set_row : {A : Type 0} (xs : List A) (d t : ℕ) (x : A) (Q : Option A → Type 0) → (t ≡ d → Q (Some x)) → Q (slice_get xs t) → Q (slice_get (set xs d x) t)

@@ -1,10 +1,10 @@
 -- What runs ask of tables of types holds of those that are fit.
 use Rattle.std.proofs.Common.{◌≡◌, true, false, [], ◌∷◌, refl}
 use Rattle.std.proofs.lemmas.Bool.{false≢true}
-use Rattle.machine.specs.flow_paths.typed_tree.type_definitions.declared.table.Shape.{Shape}
-use Rattle.machine.specs.flow_paths.typed_tree.type_definitions.declared.table.Shape.TheVariants as shape
-use Rattle.machine.specs.flow_paths.typed_tree.type_definitions.Types.{Table, shape_of, view_of}
-use Rattle.machine.specs.flow_paths.typed_tree.type_definitions.Entries.{boolean}
+use Rattle.machine.specs.type_definitions.declared.table.Shape.{Shape}
+use Rattle.machine.specs.type_definitions.declared.table.Shape.TheVariants as shape
+use Rattle.machine.specs.type_definitions.Types.{Table, shape_of, view_of}
+use Rattle.machine.specs.type_definitions.Entries.{boolean}
 use Rattle.settled_types.specs.Wholes.{AreFinite}
 use Rattle.machine.specs.Typed.{Position, sorts}
 use Rattle.run_codes.specs.Related.{IsTable}

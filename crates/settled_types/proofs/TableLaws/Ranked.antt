@@ -4,12 +4,12 @@ use Rattle.std.specs.Prelude.{slice_get}
 use Rattle.std.specs.List.{list_all}
 use Rattle.std.proofs.lemmas.Bool.{cases_lt, false≢true}
 use Rattle.std.proofs.lemmas.Option.{slice_get_past}
-use Rattle.machine.specs.flow_paths.typed_tree.type_definitions.declared.table.Component.{Component}
-use Rattle.machine.specs.flow_paths.typed_tree.type_definitions.declared.table.Info.{Info}
-use Rattle.machine.specs.flow_paths.typed_tree.type_definitions.declared.table.Shape.{Shape}
-use Rattle.machine.specs.flow_paths.typed_tree.type_definitions.declared.table.Shape.TheVariants as shape
-use Rattle.machine.specs.flow_paths.typed_tree.type_definitions.Types.{Table, info_found, shape_found, words, words_of, words_within}
-use Rattle.machine.specs.flow_paths.typed_tree.type_definitions.Declarations.{any_of, holds_shape, holds_parent}
+use Rattle.machine.specs.type_definitions.declared.table.Component.{Component}
+use Rattle.machine.specs.type_definitions.declared.table.Info.{Info}
+use Rattle.machine.specs.type_definitions.declared.table.Shape.{Shape}
+use Rattle.machine.specs.type_definitions.declared.table.Shape.TheVariants as shape
+use Rattle.machine.specs.type_definitions.Types.{Table, info_found, shape_found, words, words_of, words_within}
+use Rattle.machine.specs.type_definitions.Declarations.{any_of, holds_shape, holds_parent}
 use Rattle.type_settled.specs.Reach.{holds}
 use Rattle.type_settled.specs.Rings.{IsPart, Inside, here, deeper}
 use Rattle.settled_types.specs.Wholes.{written, AreFinite}

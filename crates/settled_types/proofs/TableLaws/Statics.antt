@@ -1,21 +1,21 @@
 -- The values of static expressions are values of Integer.
 use Rattle.std.proofs.Common.{◌≡◌, ℕ, Bool, true, false, ◌&&◌, not, refl, nat_eq, ℤ, pos, negsuc, int_lt, int_le, Option, Some, None, if◌then◌else◌}
 use Rattle.std.specs.Prelude.{option_and_then, neg_ℤ, unsigned_abs, ◌||◌, ◌+ℤ◌, ◌-ℤ◌, ◌*ℤ◌, int_div, int_rem}
-use Rattle.machine.specs.flow_paths.typed_tree.type_definitions.resolved_tree.declared.operator.Operator.{Operator}
-use Rattle.machine.specs.flow_paths.typed_tree.type_definitions.resolved_tree.declared.operator.Operator.TheVariants as operator
-use Rattle.machine.specs.flow_paths.typed_tree.type_definitions.resolved_tree.declared.operator.UnaryOperator.{UnaryOperator}
-use Rattle.machine.specs.flow_paths.typed_tree.type_definitions.resolved_tree.declared.operator.UnaryOperator.TheVariants as unary
-use Rattle.machine.specs.flow_paths.typed_tree.type_definitions.resolved_tree.Trees.{Tree, Number, Named, Parens, Unary, Binary}
+use Rattle.machine.specs.resolved_tree.declared.operator.Operator.{Operator}
+use Rattle.machine.specs.resolved_tree.declared.operator.Operator.TheVariants as operator
+use Rattle.machine.specs.resolved_tree.declared.operator.UnaryOperator.{UnaryOperator}
+use Rattle.machine.specs.resolved_tree.declared.operator.UnaryOperator.TheVariants as unary
+use Rattle.machine.specs.resolved_tree.Trees.{Tree, Number, Named, Parens, Unary, Binary}
 use Rattle.kept_cells.specs.run_values.Arithmetic.{is_integer}
-use Rattle.machine.specs.flow_paths.typed_tree.type_definitions.declared.table.Static.{Static}
-use Rattle.machine.specs.flow_paths.typed_tree.type_definitions.declared.table.Entry.{Entry}
-use Rattle.machine.specs.flow_paths.typed_tree.type_definitions.declared.table.Entry.TheVariants as entry
-use Rattle.machine.specs.flow_paths.typed_tree.type_definitions.declared.judgement.Reading.{Reading}
-use Rattle.machine.specs.flow_paths.typed_tree.type_definitions.declared.judgement.Reading.TheVariants as reading
-use Rattle.machine.specs.flow_paths.typed_tree.type_definitions.Entries.{entry_of, integer, boolean}
-use Rattle.machine.specs.flow_paths.typed_tree.type_definitions.Names.{Context, reading_of}
-use Rattle.machine.specs.flow_paths.typed_tree.type_definitions.Statics.{as_integer, static, ill_typed, truth, is_truth, int_mod, nonzero, operate, both, left_decides, two, one_sound, one, is_alone, name_value, value, value_as}
-use Rattle.machine.specs.flow_paths.typed_tree.type_definitions.Statements.{known_value}
+use Rattle.machine.specs.type_definitions.declared.table.Static.{Static}
+use Rattle.machine.specs.type_definitions.declared.table.Entry.{Entry}
+use Rattle.machine.specs.type_definitions.declared.table.Entry.TheVariants as entry
+use Rattle.machine.specs.type_definitions.declared.judgement.Reading.{Reading}
+use Rattle.machine.specs.type_definitions.declared.judgement.Reading.TheVariants as reading
+use Rattle.machine.specs.type_definitions.Entries.{entry_of, integer, boolean}
+use Rattle.machine.specs.type_definitions.Names.{Context, reading_of}
+use Rattle.machine.specs.type_definitions.Statics.{as_integer, static, ill_typed, truth, is_truth, int_mod, nonzero, operate, both, left_decides, two, one_sound, one, is_alone, name_value, value, value_as}
+use Rattle.machine.specs.type_definitions.Statements.{known_value}
 
 -- A value that there is, is one of Integer.
 abbrev pub IsWhole : Option Static → Type 0

@@ -2,9 +2,9 @@
 use Rattle.std.proofs.Common.{◌≡◌, ◌≤◌, ℕ, true, false, Bool, ◌||◌, [], ◌∷◌, refl, sym, ap, ◌∙◌, arith, slice_get, nat_eq}
 use Rattle.std.specs.Prelude.{flat_map}
 use Rattle.std.proofs.lemmas.Bool.{false≢true}
-use Rattle.machine.specs.flow_paths.typed_tree.type_definitions.declared.table.Shape.{Shape}
-use Rattle.machine.specs.flow_paths.typed_tree.type_definitions.declared.table.Shape.TheVariants as shape
-use Rattle.machine.specs.flow_paths.typed_tree.type_definitions.Types.{Table, shape_found, shape_of, meant_type, words, parts, parts_of, is_owning, owns_of}
+use Rattle.machine.specs.type_definitions.declared.table.Shape.{Shape}
+use Rattle.machine.specs.type_definitions.declared.table.Shape.TheVariants as shape
+use Rattle.machine.specs.type_definitions.Types.{Table, shape_found, shape_of, meant_type, words, parts, parts_of, is_owning, owns_of}
 use Rattle.settled_types.specs.Wholes.{AreFinite, AreWhole}
 use Rattle.settled_types.proofs.Wholes.{finite_whole}
 use Rattle.soundness.specs.PartOffsets.Parts.{IsSettled}

@@ -1,9 +1,9 @@
 -- The fronts of subprograms in code.
 use Rattle.std.specs.Prelude.{◌≡◌, []}
-use Rattle.machine.specs.flow_paths.typed_tree.type_definitions.resolved_tree.Trees.{More, Code, SubDecl, SubBody, Package, PackageBody, If, Branch, Case, When, Loop, While, For, Block}
-use Rattle.machine.specs.flow_paths.typed_tree.type_definitions.declared.table.Known.{Known}
-use Rattle.machine.specs.flow_paths.typed_tree.type_definitions.Names.{Context}
-use Rattle.machine.specs.flow_paths.typed_tree.type_definitions.Declarations.{front_faults, body_faults}
+use Rattle.machine.specs.resolved_tree.Trees.{More, Code, SubDecl, SubBody, Package, PackageBody, If, Branch, Case, When, Loop, While, For, Block}
+use Rattle.machine.specs.type_definitions.declared.table.Known.{Known}
+use Rattle.machine.specs.type_definitions.Names.{Context}
+use Rattle.machine.specs.type_definitions.Declarations.{front_faults, body_faults}
 
 -- Something holds of the front of each declaration, and something of that of each body.
 unfoldable pub AllFronts : (Code → Type 0) → (Code → Type 0) → Code → Type 0

@@ -1,16 +1,16 @@
 -- What is known of profiles, and of the rows of numbers without a name.
 use Rattle.std.specs.Prelude.{◌≡◌, ◌⊎◌, ℕ, Bool, true, false, [], Option, slice_get}
-use Rattle.machine.specs.flow_paths.typed_tree.type_definitions.resolved_tree.declared.node.Mark.{Mark}
-use Rattle.machine.specs.flow_paths.typed_tree.type_definitions.resolved_tree.Trees.{Code}
-use Rattle.machine.specs.flow_paths.typed_tree.type_definitions.declared.table.Info.{Info}
-use Rattle.machine.specs.flow_paths.typed_tree.type_definitions.declared.table.Shape.TheVariants as shape
-use Rattle.machine.specs.flow_paths.typed_tree.type_definitions.declared.table.Entry.{Entry}
-use Rattle.machine.specs.flow_paths.typed_tree.type_definitions.declared.table.Entry.TheVariants as entry
-use Rattle.machine.specs.flow_paths.typed_tree.type_definitions.declared.table.Known.{Known}
-use Rattle.machine.specs.flow_paths.typed_tree.type_definitions.declared.table.Profile.{Profile}
-use Rattle.machine.specs.flow_paths.typed_tree.type_definitions.Types.{base_found, shape_found}
-use Rattle.machine.specs.flow_paths.typed_tree.type_definitions.Entries.{entry_of, is_type, marked}
-use Rattle.machine.specs.flow_paths.typed_tree.type_definitions.Gathered.{front_number, profile}
+use Rattle.machine.specs.resolved_tree.declared.node.Mark.{Mark}
+use Rattle.machine.specs.resolved_tree.Trees.{Code}
+use Rattle.machine.specs.type_definitions.declared.table.Info.{Info}
+use Rattle.machine.specs.type_definitions.declared.table.Shape.TheVariants as shape
+use Rattle.machine.specs.type_definitions.declared.table.Entry.{Entry}
+use Rattle.machine.specs.type_definitions.declared.table.Entry.TheVariants as entry
+use Rattle.machine.specs.type_definitions.declared.table.Known.{Known}
+use Rattle.machine.specs.type_definitions.declared.table.Profile.{Profile}
+use Rattle.machine.specs.type_definitions.Types.{base_found, shape_found}
+use Rattle.machine.specs.type_definitions.Entries.{entry_of, is_type, marked}
+use Rattle.machine.specs.type_definitions.Gathered.{front_number, profile}
 
 -- A profile is that of a front with this number, by what was known where the front stands. Marks denoted types with
 -- names there.

@@ -1,7 +1,7 @@
 -- Files that are parsed from texts.
 use Rattle.std.specs.Prelude.{◌≡◌, ℕ, suc, List, [], ◌∷◌, map}
-use Rattle.machine.specs.flow_paths.typed_tree.type_definitions.resolved_tree.spark_base.Lists.{Has}
-use Rattle.machine.specs.flow_paths.typed_tree.type_definitions.resolved_tree.spark_base.Positions.{Precedes}
+use Rattle.machine.specs.spark_base.Lists.{Has}
+use Rattle.machine.specs.spark_base.Positions.{Precedes}
 use Rattle.ada_lexer.specs.Tokens.{Cut}
 use Rattle.token_reading.specs.Spelled.{Spelled, told_as}
 use Rattle.ada_tree.specs.declared.unit.SourceUnit.{SourceUnit}

@@ -1,8 +1,8 @@
 -- How types are based on others, at a place of the text.
 use Rattle.std.specs.Prelude.{◌≡◌, ◌⊎◌, ◌<◌, ◌≤◌, ℕ, List, slice_get}
-use Rattle.machine.specs.flow_paths.typed_tree.type_definitions.resolved_tree.spark_base.Lists.{Has}
-use Rattle.machine.specs.flow_paths.typed_tree.type_definitions.declared.table.Shape.{Shape}
-use Rattle.machine.specs.flow_paths.typed_tree.type_definitions.Types.{Table, base, meant_type, shape_of}
+use Rattle.machine.specs.spark_base.Lists.{Has}
+use Rattle.machine.specs.type_definitions.declared.table.Shape.{Shape}
+use Rattle.machine.specs.type_definitions.Types.{Table, base, meant_type, shape_of}
 use Rattle.settled_types.specs.Wholes.{written}
 use Rattle.settled_types.specs.GatheredLaws.DefinitionKinds.{kind}
 

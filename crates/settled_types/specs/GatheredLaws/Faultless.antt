@@ -1,11 +1,11 @@
 -- What typing says of subtypes with bounds and of instances, where it finds no fault.
 use Rattle.std.specs.Prelude.{◌≡◌, true}
-use Rattle.machine.specs.flow_paths.typed_tree.type_definitions.resolved_tree.Trees.{More, Code, ConstrainedSubtype, Instance, SubBody, Package, PackageBody, If, Branch, Case, When, Loop, While, For, Block}
-use Rattle.machine.specs.flow_paths.typed_tree.type_definitions.declared.table.Known.{Known}
-use Rattle.machine.specs.flow_paths.typed_tree.type_definitions.Types.{full, is_scalar}
-use Rattle.machine.specs.flow_paths.typed_tree.type_definitions.Entries.{marked}
-use Rattle.machine.specs.flow_paths.typed_tree.type_definitions.Gathered.{instance_type}
-use Rattle.machine.specs.flow_paths.typed_tree.type_definitions.Declarations.{is_named_access, all_types}
+use Rattle.machine.specs.resolved_tree.Trees.{More, Code, ConstrainedSubtype, Instance, SubBody, Package, PackageBody, If, Branch, Case, When, Loop, While, For, Block}
+use Rattle.machine.specs.type_definitions.declared.table.Known.{Known}
+use Rattle.machine.specs.type_definitions.Types.{full, is_scalar}
+use Rattle.machine.specs.type_definitions.Entries.{marked}
+use Rattle.machine.specs.type_definitions.Gathered.{instance_type}
+use Rattle.machine.specs.type_definitions.Declarations.{is_named_access, all_types}
 
 -- Bounds are of a scalar type; the actuals of an instance are types, and what it frees is designated by a
 -- named access type.

@@ -1,9 +1,9 @@
 -- What is said of the types of literals and of instances.
 use Rattle.std.specs.Prelude.{ℕ}
-use Rattle.machine.specs.flow_paths.typed_tree.type_definitions.resolved_tree.Trees.{More, Code, Enumeration, TypeDecl, Instance, SubBody, Package, PackageBody, If, Branch, Case, When, Loop, While, For, Block}
-use Rattle.machine.specs.flow_paths.typed_tree.type_definitions.declared.table.Entry.{Entry}
-use Rattle.machine.specs.flow_paths.typed_tree.type_definitions.declared.table.Entry.TheVariants as entry
-use Rattle.machine.specs.flow_paths.typed_tree.type_definitions.Gathered.{declared_number, instance_type}
+use Rattle.machine.specs.resolved_tree.Trees.{More, Code, Enumeration, TypeDecl, Instance, SubBody, Package, PackageBody, If, Branch, Case, When, Loop, While, For, Block}
+use Rattle.machine.specs.type_definitions.declared.table.Entry.{Entry}
+use Rattle.machine.specs.type_definitions.declared.table.Entry.TheVariants as entry
+use Rattle.machine.specs.type_definitions.Gathered.{declared_number, instance_type}
 
 abbrev pub Says : (ℕ → Type 0) → (ℕ → Type 0) → Entry → Type 0
 Says literal instance (entry.Literal t n) = literal t

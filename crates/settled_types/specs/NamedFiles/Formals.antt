@@ -1,7 +1,7 @@
 -- Subprograms whose formals have names of their own, and whose fronts are as the grammar has them.
 use Rattle.std.specs.Prelude.{ℕ, List, [], ◌++◌}
-use Rattle.machine.specs.flow_paths.typed_tree.type_definitions.resolved_tree.Trees.{NoMore, More, Code, Plain, Anonymous, Formals, Front, SubDecl, SubBody, Package, PackageBody}
-use Rattle.machine.specs.flow_paths.typed_tree.type_definitions.Gathered.{texts}
+use Rattle.machine.specs.resolved_tree.Trees.{NoMore, More, Code, Plain, Anonymous, Formals, Front, SubDecl, SubBody, Package, PackageBody}
+use Rattle.machine.specs.type_definitions.Gathered.{texts}
 use Rattle.settled_types.specs.GatheredLaws.Components.{AreWordsApart}
 
 abbrev pub group_texts : Code → List (List ℕ)

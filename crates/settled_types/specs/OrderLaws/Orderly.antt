@@ -1,12 +1,12 @@
 -- What is asked of the resolved code of an accepted program so that it is ready: beside what typing and the
 -- reports say.
 use Rattle.std.specs.Prelude.{◌≡◌, ℕ, true, false, List, map, Some}
-use Rattle.machine.specs.flow_paths.typed_tree.type_definitions.resolved_tree.spark_base.Lists.{Has}
-use Rattle.machine.specs.flow_paths.typed_tree.type_definitions.resolved_tree.Trees.{Code, Program}
-use Rattle.machine.specs.flow_paths.typed_tree.type_definitions.Types.{is_owning}
-use Rattle.machine.specs.flow_paths.typed_tree.type_definitions.Entries.{integer}
-use Rattle.machine.specs.flow_paths.typed_tree.type_definitions.Whole.{known_of}
-use Rattle.machine.specs.flow_paths.typed_tree.Programs.{TypedSub, TypedProgram, DeclaredObject, program_objects, site_of, subs_in, over_units, typed_program}
+use Rattle.machine.specs.spark_base.Lists.{Has}
+use Rattle.machine.specs.resolved_tree.Trees.{Code, Program}
+use Rattle.machine.specs.type_definitions.Types.{is_owning}
+use Rattle.machine.specs.type_definitions.Entries.{integer}
+use Rattle.machine.specs.type_definitions.Whole.{known_of}
+use Rattle.machine.specs.typed_tree.Programs.{TypedSub, TypedProgram, DeclaredObject, program_objects, site_of, subs_in, over_units, typed_program}
 use Rattle.machine.specs.flow_paths.Objects.{Typing, is_formal, is_package_object}
 use Rattle.machine.specs.flow_paths.Laid.{typing_of}
 use Rattle.settled_types.specs.OrderLaws.ScopeLaws.Code.{Once, body_seen}

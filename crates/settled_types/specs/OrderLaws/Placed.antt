@@ -1,8 +1,8 @@
 -- Typed code in which declarations stand before statements, in blocks and bodies alone, and branches and
 -- alternatives where they may: what `is_settled` of flow_paths asks of where code stands.
 use Rattle.std.specs.Prelude.{ℕ, Bool, true, false, ◌&&◌, ◌||◌, List, [], ◌∷◌, ◌++◌}
-use Rattle.machine.specs.flow_paths.typed_tree.Trees.{TypedCode}
-use Rattle.machine.specs.flow_paths.typed_tree.Trees as typed
+use Rattle.machine.specs.typed_tree.Trees.{TypedCode}
+use Rattle.machine.specs.typed_tree.Trees as typed
 use Rattle.machine.specs.flow_paths.Scopes.{is_declaration, is_undeclaring}
 
 unfoldable mutual

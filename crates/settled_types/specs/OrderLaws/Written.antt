@@ -1,7 +1,7 @@
 -- Resolved code as the grammar has it: declarations stand in declarative parts and statements after them,
 -- bodies stand in package bodies, and each exit in a loop.
 use Rattle.std.specs.Prelude.{Bool, true, false, ◌&&◌, ◌||◌}
-use Rattle.machine.specs.flow_paths.typed_tree.type_definitions.resolved_tree.Trees.{Code, Incomplete, Private, TypeDecl, Subtype, ConstrainedSubtype, Objects, Numbers, Instance, Front, SubDecl, SubBody, Package, PackageBody, Skip, Assign, Call, Exit, Return, If, Branch, Case, When, Loop, While, For, Block, NoMore, More}
+use Rattle.machine.specs.resolved_tree.Trees.{Code, Incomplete, Private, TypeDecl, Subtype, ConstrainedSubtype, Objects, Numbers, Instance, Front, SubDecl, SubBody, Package, PackageBody, Skip, Assign, Call, Exit, Return, If, Branch, Case, When, Loop, While, For, Block, NoMore, More}
 
 -- A declaration that is no body; or nothing.
 abbrev pub is_declaration : Code → Bool

@@ -1,6 +1,6 @@
 -- Identifiers that stand apart from one another.
 use Rattle.std.specs.Prelude.{◌≡◌, false, List, [], ◌∷◌}
-use Rattle.machine.specs.flow_paths.typed_tree.type_definitions.resolved_tree.spark_base.Lists.{Has}
+use Rattle.machine.specs.spark_base.Lists.{Has}
 use Rattle.name_events.specs.declared.declaration.Identified.{Identified}
 use Rattle.name_events.specs.Identified.{same_position}
 

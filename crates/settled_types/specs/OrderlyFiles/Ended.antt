@@ -1,9 +1,9 @@
 -- Full types that end after all marks of definitions up to there, their own included.
 use Rattle.std.specs.Prelude.{◌≡◌, true, false, List, [], ◌∷◌}
-use Rattle.machine.specs.flow_paths.typed_tree.type_definitions.resolved_tree.spark_base.declared.position.Pos.{Pos}
-use Rattle.machine.specs.flow_paths.typed_tree.type_definitions.resolved_tree.spark_base.Lists.{Has}
-use Rattle.machine.specs.flow_paths.typed_tree.type_definitions.resolved_tree.Trees.{More, Code, TypeDecl, SubBody, Package, PackageBody, If, Branch, Case, When, Loop, While, For, Block}
-use Rattle.machine.specs.flow_paths.typed_tree.type_definitions.Faults.{is_before}
+use Rattle.machine.specs.spark_base.declared.position.Pos.{Pos}
+use Rattle.machine.specs.spark_base.Lists.{Has}
+use Rattle.machine.specs.resolved_tree.Trees.{More, Code, TypeDecl, SubBody, Package, PackageBody, If, Branch, Case, When, Loop, While, For, Block}
+use Rattle.machine.specs.type_definitions.Faults.{is_before}
 use Rattle.settled_types.specs.Orderly.{Past, within, definition_marks, past_after}
 
 -- None of these marks stands after this end.

@@ -1,6 +1,6 @@
 -- What is always known of the declarations and the regions of a text, whatever rules of names it breaks.
 use Rattle.std.specs.Prelude.{◌≡◌, ◌⊎◌, ◌<◌, ◌≤◌, ℕ, true, false, length, slice_get, Some}
-use Rattle.machine.specs.flow_paths.typed_tree.type_definitions.resolved_tree.spark_base.Lists.{Has}
+use Rattle.machine.specs.spark_base.Lists.{Has}
 use Rattle.name_events.specs.declared.declaration.DeclarationForm.TheVariants as form
 use Rattle.name_events.specs.declared.declaration.RegionPart.TheVariants as part
 use Rattle.name_events.specs.declared.declaration.OpenRegion.{OpenRegion}

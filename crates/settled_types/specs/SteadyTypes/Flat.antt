@@ -1,5 +1,5 @@
 -- Code without packages in it.
-use Rattle.machine.specs.flow_paths.typed_tree.type_definitions.resolved_tree.Trees.{More, Code, SubBody, Package, PackageBody, If, Branch, Case, When, Loop, While, For, Block}
+use Rattle.machine.specs.resolved_tree.Trees.{More, Code, SubBody, Package, PackageBody, If, Branch, Case, When, Loop, While, For, Block}
 
 unfoldable pub IsFlat : Code → Type 0
 IsFlat (SubBody front items stmts end) = IsFlat items × IsFlat stmts

@@ -1,13 +1,13 @@
 -- A table says of anonymous access types what they are where they are declared: of those of objects, of formals and of
 -- results.
 use Rattle.std.specs.Prelude.{◌≡◌, ℕ, Bool, true, false, List, [], ◌∷◌, Some, None, slice_get}
-use Rattle.machine.specs.flow_paths.typed_tree.type_definitions.resolved_tree.Trees.{More, Code, Anonymous, Objects, Formals, Front, SubDecl, SubBody, Package, PackageBody, If, Branch, Case, When, Loop, While, For, Block}
-use Rattle.machine.specs.flow_paths.typed_tree.type_definitions.declared.table.InitialValue.{InitialValue}
-use Rattle.machine.specs.flow_paths.typed_tree.type_definitions.declared.table.Shape.TheVariants as shape
-use Rattle.machine.specs.flow_paths.typed_tree.type_definitions.Types.{Table}
-use Rattle.machine.specs.flow_paths.typed_tree.type_definitions.Entries.{entry_of, marked}
-use Rattle.machine.specs.flow_paths.typed_tree.type_definitions.Names.{Context}
-use Rattle.machine.specs.flow_paths.typed_tree.type_definitions.Gathered.{gather, with_object, with_formal, with_formal_group, with_result, constant_value, is_subprogram, front_number, in_hidden, declared_number}
+use Rattle.machine.specs.resolved_tree.Trees.{More, Code, Anonymous, Objects, Formals, Front, SubDecl, SubBody, Package, PackageBody, If, Branch, Case, When, Loop, While, For, Block}
+use Rattle.machine.specs.type_definitions.declared.table.InitialValue.{InitialValue}
+use Rattle.machine.specs.type_definitions.declared.table.Shape.TheVariants as shape
+use Rattle.machine.specs.type_definitions.Types.{Table}
+use Rattle.machine.specs.type_definitions.Entries.{entry_of, marked}
+use Rattle.machine.specs.type_definitions.Names.{Context}
+use Rattle.machine.specs.type_definitions.Gathered.{gather, with_object, with_formal, with_formal_group, with_result, constant_value, is_subprogram, front_number, in_hidden, declared_number}
 use Rattle.settled_types.specs.SteadyTypes.Alike.{outlined}
 use Rattle.settled_types.specs.SteadyTypes.Steady.{in_body, in_package, in_loop}
 

@@ -1,8 +1,8 @@
 -- What is asked of the bounds of scalar types.
 use Rattle.std.specs.Prelude.{◌≡◌, ℕ, IsTrue, slice_get, ℤ, pos}
 use Rattle.kept_cells.specs.run_values.Arithmetic.{is_integer}
-use Rattle.machine.specs.flow_paths.typed_tree.type_definitions.declared.table.Shape.TheVariants as shape
-use Rattle.machine.specs.flow_paths.typed_tree.type_definitions.Types.{Table, shape_found}
+use Rattle.machine.specs.type_definitions.declared.table.Shape.TheVariants as shape
+use Rattle.machine.specs.type_definitions.Types.{Table, shape_found}
 
 -- Low bounds are values of Integer, and positions are in the range of these.
 pub record HasBounds (table : Table) : Type 0 where

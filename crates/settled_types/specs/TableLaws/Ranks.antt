@@ -2,14 +2,14 @@
 -- itself in it.
 use Rattle.std.specs.Prelude.{◌≡◌, ◌<◌, ℕ, Bool, true, false, ◌&&◌, not, List, length, get_or, slice_get, nat_lt, nat_le, Option, Some, None}
 use Rattle.std.specs.List.{list_all}
-use Rattle.machine.specs.flow_paths.typed_tree.type_definitions.declared.table.Component.{Component}
-use Rattle.machine.specs.flow_paths.typed_tree.type_definitions.declared.table.Info.{Info}
-use Rattle.machine.specs.flow_paths.typed_tree.type_definitions.declared.table.Shape.{Shape}
-use Rattle.machine.specs.flow_paths.typed_tree.type_definitions.declared.table.Shape.TheVariants as shape
-use Rattle.machine.specs.flow_paths.typed_tree.type_definitions.declared.judgement.View.{View}
-use Rattle.machine.specs.flow_paths.typed_tree.type_definitions.declared.judgement.View.TheVariants as view
-use Rattle.machine.specs.flow_paths.typed_tree.type_definitions.Types.{Table, shape_found, full, words}
-use Rattle.machine.specs.flow_paths.typed_tree.type_definitions.Entries.{boolean}
+use Rattle.machine.specs.type_definitions.declared.table.Component.{Component}
+use Rattle.machine.specs.type_definitions.declared.table.Info.{Info}
+use Rattle.machine.specs.type_definitions.declared.table.Shape.{Shape}
+use Rattle.machine.specs.type_definitions.declared.table.Shape.TheVariants as shape
+use Rattle.machine.specs.type_definitions.declared.judgement.View.{View}
+use Rattle.machine.specs.type_definitions.declared.judgement.View.TheVariants as view
+use Rattle.machine.specs.type_definitions.Types.{Table, shape_found, full, words}
+use Rattle.machine.specs.type_definitions.Entries.{boolean}
 
 -- ---- ranks
 

@@ -1,9 +1,9 @@
 -- The package objects of a program without a fault of typing are declared without calls.
 use Rattle.std.proofs.Common.{◌≡◌, ap, ◌∙◌, not, true, List, None}
-use Rattle.machine.specs.flow_paths.typed_tree.type_definitions.resolved_tree.spark_base.Lists.{Has}
-use Rattle.machine.specs.flow_paths.typed_tree.type_definitions.resolved_tree.Trees.{Code, Program}
-use Rattle.machine.specs.flow_paths.typed_tree.type_definitions.Whole.{known_of, type_fault}
-use Rattle.machine.specs.flow_paths.typed_tree.Programs.{TypedSub, elaborated, over_units, site_of, elaboration}
+use Rattle.machine.specs.spark_base.Lists.{Has}
+use Rattle.machine.specs.resolved_tree.Trees.{Code, Program}
+use Rattle.machine.specs.type_definitions.Whole.{known_of, type_fault}
+use Rattle.machine.specs.typed_tree.Programs.{TypedSub, elaborated, over_units, site_of, elaboration}
 use Rattle.machine.specs.flow_paths.Points.{NamedPoint}
 use Rattle.machine.specs.flow_paths.Laid.{unnumbered, elaboration_points, typing_of}
 use Rattle.soundness.specs.Sound.{calls_procedures}

@@ -3,25 +3,25 @@ use Rattle.std.proofs.Common.{◌≡◌, refl, sym, ap, ◌∙◌, inl, inr, ℕ
 use Rattle.std.specs.Prelude.{is_none}
 use Rattle.std.specs.List.{AllByRecursion}
 use Rattle.std.proofs.lemmas.Bool.{false≢true}
-use Rattle.machine.specs.flow_paths.typed_tree.type_definitions.resolved_tree.spark_base.Lists.{Has}
-use Rattle.machine.specs.flow_paths.typed_tree.type_definitions.resolved_tree.Trees.{Tree, Code, Incomplete, Private, TypeDecl, Subtype, ConstrainedSubtype, Objects, Numbers, Instance, SubDecl, SubBody, Package, PackageBody, NoMore, More, code_items}
-use Rattle.machine.specs.flow_paths.typed_tree.type_definitions.resolved_tree.Trees as resolved
-use Rattle.machine.specs.flow_paths.typed_tree.type_definitions.declared.judgement.Fault.{Fault}
-use Rattle.machine.specs.flow_paths.typed_tree.type_definitions.declared.judgement.Where.TheVariants as stands
-use Rattle.machine.specs.flow_paths.typed_tree.type_definitions.declared.table.Known.{Known}
-use Rattle.machine.specs.flow_paths.typed_tree.type_definitions.Types.{is_owning}
-use Rattle.machine.specs.flow_paths.typed_tree.type_definitions.Entries.{integer}
-use Rattle.machine.specs.flow_paths.typed_tree.type_definitions.Faults.{demand}
-use Rattle.machine.specs.flow_paths.typed_tree.type_definitions.Expressions.{around, inside}
-use Rattle.machine.specs.flow_paths.typed_tree.type_definitions.Statements.{static_faults}
-use Rattle.machine.specs.flow_paths.typed_tree.type_definitions.Declarations.{code_faults, starting, in_package, first_pos, is_single, has_one, initial_faults, objects_faults, indication_faults}
-use Rattle.machine.specs.flow_paths.typed_tree.type_definitions.Gathered.{is_anonymous_indication, in_visible, in_hidden, declared_number}
-use Rattle.machine.specs.flow_paths.typed_tree.type_definitions.Whole.{outside}
-use Rattle.machine.specs.flow_paths.typed_tree.Trees.{TypedTree, TypedCode, typed_code_list}
-use Rattle.machine.specs.flow_paths.typed_tree.Trees as typed
-use Rattle.machine.specs.flow_paths.typed_tree.Expressions.{Site, typed_expression, typed_optional}
-use Rattle.machine.specs.flow_paths.typed_tree.Statements.{scope_count, statements, typed_object}
-use Rattle.machine.specs.flow_paths.typed_tree.Programs.{site_of, placed, elaborated, elaboration, over_units}
+use Rattle.machine.specs.spark_base.Lists.{Has}
+use Rattle.machine.specs.resolved_tree.Trees.{Tree, Code, Incomplete, Private, TypeDecl, Subtype, ConstrainedSubtype, Objects, Numbers, Instance, SubDecl, SubBody, Package, PackageBody, NoMore, More, code_items}
+use Rattle.machine.specs.resolved_tree.Trees as resolved
+use Rattle.machine.specs.type_definitions.declared.judgement.Fault.{Fault}
+use Rattle.machine.specs.type_definitions.declared.judgement.Where.TheVariants as stands
+use Rattle.machine.specs.type_definitions.declared.table.Known.{Known}
+use Rattle.machine.specs.type_definitions.Types.{is_owning}
+use Rattle.machine.specs.type_definitions.Entries.{integer}
+use Rattle.machine.specs.type_definitions.Faults.{demand}
+use Rattle.machine.specs.type_definitions.Expressions.{around, inside}
+use Rattle.machine.specs.type_definitions.Statements.{static_faults}
+use Rattle.machine.specs.type_definitions.Declarations.{code_faults, starting, in_package, first_pos, is_single, has_one, initial_faults, objects_faults, indication_faults}
+use Rattle.machine.specs.type_definitions.Gathered.{is_anonymous_indication, in_visible, in_hidden, declared_number}
+use Rattle.machine.specs.type_definitions.Whole.{outside}
+use Rattle.machine.specs.typed_tree.Trees.{TypedTree, TypedCode, typed_code_list}
+use Rattle.machine.specs.typed_tree.Trees as typed
+use Rattle.machine.specs.typed_tree.Expressions.{Site, typed_expression, typed_optional}
+use Rattle.machine.specs.typed_tree.Statements.{scope_count, statements, typed_object}
+use Rattle.machine.specs.typed_tree.Programs.{site_of, placed, elaborated, elaboration, over_units}
 use Rattle.machine.specs.flow_paths.Names.{has_call}
 use Rattle.settled_types.proofs.OrderLaws.ScopeLaws.Lists.{and_first, and_second, both_true, all_both}
 use Rattle.settled_types.specs.OrderLaws.Written.{is_declaration, are_declarations, is_body, are_parts, is_unit}

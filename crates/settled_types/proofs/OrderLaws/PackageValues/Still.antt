@@ -2,28 +2,28 @@
 use Rattle.std.proofs.Common.{◌≡◌, refl, subst, ℕ, ◌+◌, Bool, true, false, not, ◌||◌, nat_eq, List, [], ◌∷◌, ◌++◌, map, ℤ, if◌then◌else◌}
 use Rattle.std.specs.List.{AllByRecursion}
 use Rattle.std.proofs.lemmas.Bool.{false≢true, true≢false}
-use Rattle.machine.specs.flow_paths.typed_tree.type_definitions.resolved_tree.spark_base.declared.position.Pos.{Pos}
-use Rattle.machine.specs.flow_paths.typed_tree.type_definitions.resolved_tree.declared.operator.Operator.{Operator}
-use Rattle.machine.specs.flow_paths.typed_tree.type_definitions.resolved_tree.declared.operator.Operator.TheVariants as operator
-use Rattle.machine.specs.flow_paths.typed_tree.type_definitions.resolved_tree.Trees.{Tree, Number, Text, Named, Parens, Unary, Binary, Aggregate, Others, New, Selected, All, Applied, Argument, position}
-use Rattle.machine.specs.flow_paths.typed_tree.type_definitions.resolved_tree.Trees as resolved
-use Rattle.machine.specs.flow_paths.typed_tree.type_definitions.declared.judgement.Fault.{Fault}
-use Rattle.machine.specs.flow_paths.typed_tree.type_definitions.declared.judgement.View.{View}
-use Rattle.machine.specs.flow_paths.typed_tree.type_definitions.declared.judgement.View.TheVariants as view
-use Rattle.machine.specs.flow_paths.typed_tree.type_definitions.declared.judgement.Reading.{Reading}
-use Rattle.machine.specs.flow_paths.typed_tree.type_definitions.declared.judgement.Reading.TheVariants as reading
-use Rattle.machine.specs.flow_paths.typed_tree.type_definitions.declared.judgement.Role.{Role}
-use Rattle.machine.specs.flow_paths.typed_tree.type_definitions.declared.judgement.Way.{Way}
-use Rattle.machine.specs.flow_paths.typed_tree.type_definitions.declared.judgement.Where.TheVariants as stands
-use Rattle.machine.specs.flow_paths.typed_tree.type_definitions.Faults.{demand}
-use Rattle.machine.specs.flow_paths.typed_tree.type_definitions.Entries.{entry_of, integer}
-use Rattle.machine.specs.flow_paths.typed_tree.type_definitions.Names.{Context, seen, through, reading_of}
-use Rattle.machine.specs.flow_paths.typed_tree.type_definitions.Statics.{is_alone}
-use Rattle.machine.specs.flow_paths.typed_tree.type_definitions.Expressions.{Given, all_by_position, reading_faults, given_names, call_arguments, way_of, onward, around, around_parens, around_operands, around_role, is_loose, role_type, aggregates, parts_role, repeats, repeated_type, mark_faults, inside, arguments, within_suffix, behind, unary_type, operand_type, is_null}
-use Rattle.machine.specs.flow_paths.typed_tree.type_definitions.Gathered.{natural_of}
-use Rattle.machine.specs.flow_paths.typed_tree.Trees.{TypedTree, typed_list}
-use Rattle.machine.specs.flow_paths.typed_tree.Trees as typed
-use Rattle.machine.specs.flow_paths.typed_tree.Expressions.{Site, number, value_of_type, designating, element, typed_name, operands, has_name, named_value, arranged, typed_expression, typed_steps, typed_step, typed_actuals, typed_imaged, typed_first, typed_values}
+use Rattle.machine.specs.spark_base.declared.position.Pos.{Pos}
+use Rattle.machine.specs.resolved_tree.declared.operator.Operator.{Operator}
+use Rattle.machine.specs.resolved_tree.declared.operator.Operator.TheVariants as operator
+use Rattle.machine.specs.resolved_tree.Trees.{Tree, Number, Text, Named, Parens, Unary, Binary, Aggregate, Others, New, Selected, All, Applied, Argument, position}
+use Rattle.machine.specs.resolved_tree.Trees as resolved
+use Rattle.machine.specs.type_definitions.declared.judgement.Fault.{Fault}
+use Rattle.machine.specs.type_definitions.declared.judgement.View.{View}
+use Rattle.machine.specs.type_definitions.declared.judgement.View.TheVariants as view
+use Rattle.machine.specs.type_definitions.declared.judgement.Reading.{Reading}
+use Rattle.machine.specs.type_definitions.declared.judgement.Reading.TheVariants as reading
+use Rattle.machine.specs.type_definitions.declared.judgement.Role.{Role}
+use Rattle.machine.specs.type_definitions.declared.judgement.Way.{Way}
+use Rattle.machine.specs.type_definitions.declared.judgement.Where.TheVariants as stands
+use Rattle.machine.specs.type_definitions.Faults.{demand}
+use Rattle.machine.specs.type_definitions.Entries.{entry_of, integer}
+use Rattle.machine.specs.type_definitions.Names.{Context, seen, through, reading_of}
+use Rattle.machine.specs.type_definitions.Statics.{is_alone}
+use Rattle.machine.specs.type_definitions.Expressions.{Given, all_by_position, reading_faults, given_names, call_arguments, way_of, onward, around, around_parens, around_operands, around_role, is_loose, role_type, aggregates, parts_role, repeats, repeated_type, mark_faults, inside, arguments, within_suffix, behind, unary_type, operand_type, is_null}
+use Rattle.machine.specs.type_definitions.Gathered.{natural_of}
+use Rattle.machine.specs.typed_tree.Trees.{TypedTree, typed_list}
+use Rattle.machine.specs.typed_tree.Trees as typed
+use Rattle.machine.specs.typed_tree.Expressions.{Site, number, value_of_type, designating, element, typed_name, operands, has_name, named_value, arranged, typed_expression, typed_steps, typed_step, typed_actuals, typed_imaged, typed_first, typed_values}
 use Rattle.machine.specs.flow_paths.Names.{has_call}
 use Rattle.settled_types.proofs.OrderLaws.Mains.{nothing_left, nothing_right, demanded}
 use Rattle.soundness.proofs.TypedLaws.TypedPoints.Flags.{flagged, reading_same}

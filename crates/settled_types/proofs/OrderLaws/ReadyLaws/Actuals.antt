@@ -1,14 +1,14 @@
 -- The actuals of typed calls stay within what they name; and where no object is a formal, there is
 -- nothing to ask.
 use Rattle.std.proofs.Common.{◌≡◌, refl, ap, ◌∙◌, subst, inl, inr, ℕ, Bool, true, List, [], ◌∷◌}
-use Rattle.machine.specs.flow_paths.typed_tree.type_definitions.resolved_tree.spark_base.Lists.{Has}
-use Rattle.machine.specs.flow_paths.typed_tree.type_definitions.resolved_tree.place_names.declared.act.Mode.{Mode}
-use Rattle.machine.specs.flow_paths.typed_tree.type_definitions.resolved_tree.place_names.declared.act.Mode.TheVariants as mode
-use Rattle.machine.specs.flow_paths.typed_tree.type_definitions.declared.table.Shape.{Shape}
-use Rattle.machine.specs.flow_paths.typed_tree.type_definitions.declared.table.Shape.TheVariants as shape
-use Rattle.machine.specs.flow_paths.typed_tree.type_definitions.Entries.{integer, boolean}
-use Rattle.machine.specs.flow_paths.typed_tree.type_definitions.Types.{shape_of, words, words_of, full, view_of, is_scalar}
-use Rattle.machine.specs.flow_paths.typed_tree.Trees.{TypedTree, Name, Call, Parens, More}
+use Rattle.machine.specs.spark_base.Lists.{Has}
+use Rattle.machine.specs.place_names.declared.act.Mode.{Mode}
+use Rattle.machine.specs.place_names.declared.act.Mode.TheVariants as mode
+use Rattle.machine.specs.type_definitions.declared.table.Shape.{Shape}
+use Rattle.machine.specs.type_definitions.declared.table.Shape.TheVariants as shape
+use Rattle.machine.specs.type_definitions.Entries.{integer, boolean}
+use Rattle.machine.specs.type_definitions.Types.{shape_of, words, words_of, full, view_of, is_scalar}
+use Rattle.machine.specs.typed_tree.Trees.{TypedTree, Name, Call, Parens, More}
 use Rattle.machine.specs.flow_paths.Objects.{Typing, Signature, object_at, sub_at}
 use Rattle.machine.specs.flow_paths.Laid.{FlowProgram, flow_typing}
 use Rattle.machine.specs.States.{sub_of}

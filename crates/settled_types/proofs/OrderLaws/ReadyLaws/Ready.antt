@@ -5,12 +5,12 @@ use Rattle.std.specs.Prelude.{reverse}
 use Rattle.std.specs.List.{AllByRecursion}
 use Rattle.std.proofs.lemmas.List.{length-map}
 use Rattle.std.proofs.lemmas.Bool.{false≢true}
-use Rattle.machine.specs.flow_paths.typed_tree.type_definitions.resolved_tree.spark_base.Lists.{Has}
+use Rattle.machine.specs.spark_base.Lists.{Has}
 use Rattle.spark_base.proofs.Lists.{Has-append_right, Has-map, Has-map_from}
-use Rattle.machine.specs.flow_paths.typed_tree.type_definitions.Types.{Table}
-use Rattle.machine.specs.flow_paths.typed_tree.Trees.{TypedTree, Name}
-use Rattle.machine.specs.flow_paths.typed_tree.declared.object.Object.{Object}
-use Rattle.machine.specs.flow_paths.typed_tree.Programs.{TypedSub, TypedProgram, text_io}
+use Rattle.machine.specs.type_definitions.Types.{Table}
+use Rattle.machine.specs.typed_tree.Trees.{TypedTree, Name}
+use Rattle.machine.specs.typed_tree.declared.object.Object.{Object}
+use Rattle.machine.specs.typed_tree.Programs.{TypedSub, TypedProgram, text_io}
 use Rattle.machine.specs.flow_paths.declared.report.Effects.{Effects}
 use Rattle.machine.specs.flow_paths.Instructions.{Instruction, Declare, Assign, Call, Input, Release, Evaluate, EndScope, Finish}
 use Rattle.machine.specs.flow_paths.Objects.{Typing, object_at, is_formal, is_package_object}

@@ -5,9 +5,9 @@ use Rattle.std.specs.List.{AllByRecursion, position_or_len}
 use Rattle.std.specs.Cmp.Lexicographic.{pointwise_decides}
 use Rattle.std.proofs.lemmas.Bool.Decides.{Decides-eqb}
 use Rattle.std.proofs.lemmas.Bool.{false≢true, true≢false}
-use Rattle.machine.specs.flow_paths.typed_tree.type_definitions.resolved_tree.spark_base.Lists.{Has}
-use Rattle.machine.specs.flow_paths.typed_tree.type_definitions.Types.{Table}
-use Rattle.machine.specs.flow_paths.typed_tree.Programs.{TypedProgram}
+use Rattle.machine.specs.spark_base.Lists.{Has}
+use Rattle.machine.specs.type_definitions.Types.{Table}
+use Rattle.machine.specs.typed_tree.Programs.{TypedProgram}
 use Rattle.machine.specs.flow_paths.declared.report.Effects.{Effects}
 use Rattle.machine.specs.flow_paths.Instructions.{Instruction, Hold, Finish}
 use Rattle.machine.specs.flow_paths.Objects.{Typing}

@@ -1,9 +1,9 @@
 -- The subprograms of the layout are those of the typed program, by their numbers.
 use Rattle.std.proofs.Common.{◌≡◌, refl, sym, ap, ◌∙◌, subst, ◌⊎◌, inl, inr, ℕ, suc, ◌+◌, ◌≤◌, List, [], ◌∷◌, ◌++◌, length, arith}
 use Rattle.std.specs.Prelude.{flat_map}
-use Rattle.machine.specs.flow_paths.typed_tree.type_definitions.resolved_tree.spark_base.Lists.{Has}
+use Rattle.machine.specs.spark_base.Lists.{Has}
 use Rattle.spark_base.proofs.Lists.{Has-append_left, Has-append_right}
-use Rattle.machine.specs.flow_paths.typed_tree.Programs.{TypedSub}
+use Rattle.machine.specs.typed_tree.Programs.{TypedSub}
 use Rattle.machine.specs.flow_paths.Objects.{Typing}
 use Rattle.machine.specs.flow_paths.Prep.{Setting}
 use Rattle.machine.specs.flow_paths.Laid.{NamedSub, numbers_from, sub_temporaries, named_sub, named_subs, elaborated, all_named}

@@ -1,8 +1,8 @@
 -- Code in which all functions are as asked, and expressions without calls.
 use Rattle.std.proofs.Common.{◌≡◌, refl, inl, ℕ, Bool, true, false, ◌||◌}
 use Rattle.std.proofs.lemmas.Bool.{true≢false}
-use Rattle.machine.specs.flow_paths.typed_tree.Trees.{TypedTree, Name, Component, Designated, Element, Image, Parens, Unary, Binary, Short, IsNull, Aggregate, Alike, New, TypedCode, Declare, Assign, Output, Input, Release, If, Branch, Case, When, Loop, While, For, Exit, Return, Block}
-use Rattle.machine.specs.flow_paths.typed_tree.Trees as typed
+use Rattle.machine.specs.typed_tree.Trees.{TypedTree, Name, Component, Designated, Element, Image, Parens, Unary, Binary, Short, IsNull, Aggregate, Alike, New, TypedCode, Declare, Assign, Output, Input, Release, If, Branch, Case, When, Loop, While, For, Exit, Return, Block}
+use Rattle.machine.specs.typed_tree.Trees as typed
 use Rattle.machine.specs.flow_paths.Names.{has_call}
 use Rattle.settled_types.specs.OrderLaws.ScopeLaws.Alone.{CallsFit, CallsOnly, SourceFits, CodeFits, BranchesFit, BranchFits, AlternativesFit, AlternativeFits}
 

@@ -4,11 +4,11 @@ use Rattle.std.specs.Prelude.{Some, None}
 use Rattle.std.specs.List.{position_or_len}
 use Rattle.std.specs.Cmp.Lexicographic.{pointwise_decides}
 use Rattle.std.proofs.lemmas.Bool.Decides.{Decides-eqb}
-use Rattle.machine.specs.flow_paths.typed_tree.type_definitions.resolved_tree.spark_base.Lists.{Has}
+use Rattle.machine.specs.spark_base.Lists.{Has}
 use Rattle.spark_base.proofs.Lists.{Has-append_left, Has-append_right, Has-append_cases}
-use Rattle.machine.specs.flow_paths.typed_tree.type_definitions.Entries.{boolean}
-use Rattle.machine.specs.flow_paths.typed_tree.declared.object.Object.{Object}
-use Rattle.machine.specs.flow_paths.typed_tree.Programs.{TypedSub, text_io}
+use Rattle.machine.specs.type_definitions.Entries.{boolean}
+use Rattle.machine.specs.typed_tree.declared.object.Object.{Object}
+use Rattle.machine.specs.typed_tree.Programs.{TypedSub, text_io}
 use Rattle.machine.specs.flow_paths.Instructions.{Instruction, Call, Evaluate}
 use Rattle.machine.specs.flow_paths.Objects.{Typing, sub_at}
 use Rattle.machine.specs.flow_paths.Points.{Place, same_place, NamedPoint}

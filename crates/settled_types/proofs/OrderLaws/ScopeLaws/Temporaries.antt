@@ -3,13 +3,13 @@
 use Rattle.std.proofs.Common.{◌≡◌, refl, sym, ap, ◌∙◌, subst, inl, inr, ℕ, ◌+◌, ◌<◌, ◌≤◌, Bool, true, false, not, ◌&&◌, ◌||◌, List, [], ◌∷◌, ◌++◌, map, length}
 use Rattle.std.specs.List.{AllByRecursion}
 use Rattle.std.proofs.lemmas.Bool.{false≢true}
-use Rattle.machine.specs.flow_paths.typed_tree.type_definitions.resolved_tree.spark_base.Lists.{Has}
+use Rattle.machine.specs.spark_base.Lists.{Has}
 use Rattle.spark_base.proofs.Lists.{Has-append_right, Has-append_cases}
-use Rattle.machine.specs.flow_paths.typed_tree.type_definitions.Types.{Table}
-use Rattle.machine.specs.flow_paths.typed_tree.declared.object.Object.{Object}
-use Rattle.machine.specs.flow_paths.typed_tree.Trees.{TypedCode, Declare, If, Branch, Case, When, Loop, While, For, Block, More}
-use Rattle.machine.specs.flow_paths.typed_tree.Programs.{TypedSub, TypedProgram, text_io}
-use Rattle.machine.specs.flow_paths.typed_tree.type_definitions.Types.{full, is_owning}
+use Rattle.machine.specs.type_definitions.Types.{Table}
+use Rattle.machine.specs.typed_tree.declared.object.Object.{Object}
+use Rattle.machine.specs.typed_tree.Trees.{TypedCode, Declare, If, Branch, Case, When, Loop, While, For, Block, More}
+use Rattle.machine.specs.typed_tree.Programs.{TypedSub, TypedProgram, text_io}
+use Rattle.machine.specs.type_definitions.Types.{full, is_owning}
 use Rattle.machine.specs.flow_paths.Objects.{Typing, object_at, is_anonymous, has_scope_end}
 use Rattle.machine.specs.flow_paths.Points.{Place}
 use Rattle.machine.specs.flow_paths.Prep.{Setting}

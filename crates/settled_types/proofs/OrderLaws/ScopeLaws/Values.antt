@@ -3,12 +3,12 @@
 use Rattle.std.proofs.Common.{◌≡◌, refl, sym, subst, ◌∙◌, ◌⊎◌, inl, inr, ℕ, suc, Bool, true, false, List, [], ◌∷◌, ◌++◌, None, if◌then◌else◌}
 use Rattle.std.specs.Prelude.{flat_map, is_some}
 use Rattle.std.specs.List.{AllByRecursion}
-use Rattle.machine.specs.flow_paths.typed_tree.type_definitions.resolved_tree.spark_base.declared.position.Pos.{Pos}
-use Rattle.machine.specs.flow_paths.typed_tree.type_definitions.resolved_tree.spark_base.Lists.{Has}
+use Rattle.machine.specs.spark_base.declared.position.Pos.{Pos}
+use Rattle.machine.specs.spark_base.Lists.{Has}
 use Rattle.spark_base.proofs.Lists.{Has-append_left, Has-append_right}
-use Rattle.machine.specs.flow_paths.typed_tree.Trees.{TypedTree, Name, Component, Designated, Element, Image, Parens, Unary, Binary, Short, IsNull, Aggregate, Alike, New, TypedCode, Declare, Assign, Skip, Output, Input, Release, If, Branch, Case, When, Loop, While, For, Exit, Return, Block}
-use Rattle.machine.specs.flow_paths.typed_tree.Trees as typed
-use Rattle.machine.specs.flow_paths.typed_tree.Programs.{TypedSub}
+use Rattle.machine.specs.typed_tree.Trees.{TypedTree, Name, Component, Designated, Element, Image, Parens, Unary, Binary, Short, IsNull, Aggregate, Alike, New, TypedCode, Declare, Assign, Skip, Output, Input, Release, If, Branch, Case, When, Loop, While, For, Exit, Return, Block}
+use Rattle.machine.specs.typed_tree.Trees as typed
+use Rattle.machine.specs.typed_tree.Programs.{TypedSub}
 use Rattle.machine.specs.flow_paths.Instructions.{Instruction}
 use Rattle.machine.specs.flow_paths.Instructions as instruction
 use Rattle.machine.specs.flow_paths.Names.{has_call}

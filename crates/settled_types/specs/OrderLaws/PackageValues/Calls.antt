@@ -1,6 +1,6 @@
 -- Code that declares objects with values that call no function.
 use Rattle.std.specs.Prelude.{Bool, true, not, ◌&&◌}
-use Rattle.machine.specs.flow_paths.typed_tree.Trees.{TypedCode, Declare, More}
+use Rattle.machine.specs.typed_tree.Trees.{TypedCode, Declare, More}
 use Rattle.machine.specs.flow_paths.Names.{has_call}
 
 -- No initial value calls a function of the program.

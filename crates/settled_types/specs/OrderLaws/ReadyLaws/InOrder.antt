@@ -2,11 +2,11 @@
 -- points, paths or facts.
 use Rattle.std.specs.Prelude.{◌≡◌, ℕ, suc, ◌≤◌, ◌<◌, Bool, true, false, not, ◌&&◌, List, ◌∷◌, ◌++◌, flat_map, length, Option, Some, None, is_some}
 use Rattle.std.specs.List.{list_all}
-use Rattle.machine.specs.flow_paths.typed_tree.type_definitions.resolved_tree.spark_base.Lists.{Has}
-use Rattle.machine.specs.flow_paths.typed_tree.type_definitions.Types.{Table, full, is_scalar, is_owning}
-use Rattle.machine.specs.flow_paths.typed_tree.Trees.{TypedTree, TypedCode}
-use Rattle.machine.specs.flow_paths.typed_tree.Trees as typed
-use Rattle.machine.specs.flow_paths.typed_tree.Programs.{TypedSub, TypedProgram}
+use Rattle.machine.specs.spark_base.Lists.{Has}
+use Rattle.machine.specs.type_definitions.Types.{Table, full, is_scalar, is_owning}
+use Rattle.machine.specs.typed_tree.Trees.{TypedTree, TypedCode}
+use Rattle.machine.specs.typed_tree.Trees as typed
+use Rattle.machine.specs.typed_tree.Programs.{TypedSub, TypedProgram}
 use Rattle.machine.specs.flow_paths.Objects.{Typing, object_at, is_formal, is_package_object}
 use Rattle.machine.specs.flow_paths.Instructions.{Call}
 use Rattle.machine.specs.flow_paths.Points.{NamedPoint, FlowPoint}

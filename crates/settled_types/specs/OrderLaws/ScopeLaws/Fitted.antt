@@ -1,8 +1,8 @@
 -- The types of the values that wait, and of the temporaries in which they do. `of` says of which type the result of a
 -- function is, and `truth` is that of truth values.
 use Rattle.std.specs.Prelude.{◌≡◌, ℕ, List, [], ◌∷◌, ◌++◌, take, drop, Some, None, if◌then◌else◌}
-use Rattle.machine.specs.flow_paths.typed_tree.Trees.{TypedTree, Name, Component, Designated, Element, Image, Parens, Unary, Binary, Short, IsNull, Aggregate, Alike, New}
-use Rattle.machine.specs.flow_paths.typed_tree.Trees as typed
+use Rattle.machine.specs.typed_tree.Trees.{TypedTree, Name, Component, Designated, Element, Image, Parens, Unary, Binary, Short, IsNull, Aggregate, Alike, New}
+use Rattle.machine.specs.typed_tree.Trees as typed
 use Rattle.machine.specs.flow_paths.Instructions.{Instruction, Declare, Assign, Call, Output, Input, Release, Test, Choose, Start, Evaluate, LeaveLoop, Hold}
 use Rattle.machine.specs.flow_paths.Names.{has_call}
 use Rattle.machine.specs.flow_paths.Points.{NamedPoint}

@@ -1,6 +1,6 @@
 -- What holds of the points of a subprogram.
 use Rattle.std.specs.Prelude.{◌≡◌, ℕ, Bool, true, List, [], ◌++◌, length}
-use Rattle.machine.specs.flow_paths.typed_tree.Trees.{TypedTree}
+use Rattle.machine.specs.typed_tree.Trees.{TypedTree}
 use Rattle.machine.specs.flow_paths.Instructions.{Instruction, Declare, Assign, Call, Output, Input, Release, Test, Choose, Start, Evaluate, LeaveLoop, Hold, EndScope, Finish}
 use Rattle.machine.specs.flow_paths.Points.{NamedPoint}
 use Rattle.machine.specs.flow_paths.Scopes.{is_ready}

@@ -1,6 +1,6 @@
 -- What follows a return: the ends of scopes and the end of the call, and nothing else leads there.
 use Rattle.std.specs.Prelude.{◌≡◌, ◌⊎◌, ℕ, ◌≤◌, Bool, true, false, List, [], ◌∷◌}
-use Rattle.machine.specs.flow_paths.typed_tree.type_definitions.resolved_tree.spark_base.Lists.{Has}
+use Rattle.machine.specs.spark_base.Lists.{Has}
 use Rattle.machine.specs.flow_paths.Instructions.{Instruction, Hold, EndScope, Finish}
 use Rattle.machine.specs.flow_paths.Points.{PointName, row_at, NamedPoint}
 

@@ -1,7 +1,7 @@
 -- Temporaries in the scopes of points: those that an instruction takes are the last ones in scope.
 -- `held` says which objects are temporaries.
 use Rattle.std.specs.Prelude.{◌≡◌, ℕ, Bool, true, false, List, [], ◌∷◌, filter, take, drop, length, Some, None}
-use Rattle.machine.specs.flow_paths.typed_tree.type_definitions.resolved_tree.spark_base.Lists.{Has}
+use Rattle.machine.specs.spark_base.Lists.{Has}
 use Rattle.machine.specs.flow_paths.Instructions.{Instruction, Declare, Start, Call, Evaluate, Hold, EndScope}
 use Rattle.machine.specs.flow_paths.Points.{NamedPoint}
 use Rattle.machine.specs.flow_paths.Scopes.{taken}

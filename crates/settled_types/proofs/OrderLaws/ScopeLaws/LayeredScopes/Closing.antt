@@ -4,13 +4,13 @@ use Rattle.std.specs.Prelude.{cond, filter, drop, reverse}
 use Rattle.std.specs.List.{list_all}
 use Rattle.std.proofs.lemmas.List.{reverse-append}
 use Rattle.std.proofs.lemmas.Bool.{false≢true}
-use Rattle.machine.specs.flow_paths.typed_tree.type_definitions.resolved_tree.spark_base.Lists.{Has}
+use Rattle.machine.specs.spark_base.Lists.{Has}
 use Rattle.spark_base.proofs.Lists.{Has-append_cases}
-use Rattle.machine.specs.flow_paths.typed_tree.Trees.{TypedCode, Declare}
-use Rattle.machine.specs.flow_paths.typed_tree.Trees as typed
+use Rattle.machine.specs.typed_tree.Trees.{TypedCode, Declare}
+use Rattle.machine.specs.typed_tree.Trees as typed
 use Rattle.machine.specs.flow_paths.Instructions.{Instruction}
 use Rattle.machine.specs.flow_paths.Objects.{Typing, object_at, is_observer, has_scope_end, is_variable, is_borrowing, is_observing, view_of}
-use Rattle.machine.specs.flow_paths.typed_tree.type_definitions.Types.{is_owning}
+use Rattle.machine.specs.type_definitions.Types.{is_owning}
 use Rattle.machine.specs.flow_paths.Layout.{declared, from}
 use Rattle.machine.specs.flow_paths.Views.{scope_of}
 use Rattle.settled_types.proofs.OrderLaws.ScopeLaws.Lists.{and_first, and_second}

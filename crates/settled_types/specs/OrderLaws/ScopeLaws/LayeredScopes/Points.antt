@@ -1,7 +1,7 @@
 -- What holds of the points of layered code.
 use Rattle.std.specs.Prelude.{◌≡◌, ℕ, Bool, true, List, [], ◌∷◌, drop}
-use Rattle.machine.specs.flow_paths.typed_tree.type_definitions.resolved_tree.spark_base.Lists.{Has}
-use Rattle.machine.specs.flow_paths.typed_tree.Trees.{TypedTree}
+use Rattle.machine.specs.spark_base.Lists.{Has}
+use Rattle.machine.specs.typed_tree.Trees.{TypedTree}
 use Rattle.machine.specs.flow_paths.Instructions.{Instruction, Declare, Assign, EndScope}
 use Rattle.machine.specs.flow_paths.Objects.{Typing, is_observer}
 use Rattle.machine.specs.flow_paths.Points.{PointName, NamedPoint}
