@@ -2,16 +2,16 @@
 use Rattle.std.proofs.Common.{◌≡◌, refl, sym, ap, ◌∙◌, subst, ◌⊎◌, inl, inr, ℕ, zero, suc, List, [], ◌∷◌, ◌++◌, map, length, get_or, None, is_some}
 use Rattle.std.specs.Prelude.{flat_map}
 use Rattle.std.specs.List.{AllByRecursion}
-use Rattle.spark_base.specs.Lists.{Has}
-use Rattle.place_names.specs.declared.act.Mode.TheVariants as mode
-use Rattle.resolved_tree.specs.Trees.{Program}
-use Rattle.type_definitions.specs.Types.{Table}
-use Rattle.type_definitions.specs.Whole.{known_of}
-use Rattle.typed_tree.specs.declared.object.Object.{Object}
-use Rattle.typed_tree.specs.declared.object.ObjectKind.TheVariants as object_kind
-use Rattle.typed_tree.specs.Programs.{TypedSub, text_io, typed_program}
-use Rattle.flow_paths.specs.Objects.{Typing, Signature, object_at, sub_at}
-use Rattle.flow_paths.specs.Laid.{Temporary, temporary_object, NamedSub, FlowProgram, signature, flow_typing, flow_named, flow_program}
+use Rattle.machine.specs.spark_base.Lists.{Has}
+use Rattle.machine.specs.place_names.declared.act.Mode.TheVariants as mode
+use Rattle.machine.specs.resolved_tree.Trees.{Program}
+use Rattle.machine.specs.type_definitions.Types.{Table}
+use Rattle.machine.specs.type_definitions.Whole.{known_of}
+use Rattle.machine.specs.typed_tree.declared.object.Object.{Object}
+use Rattle.machine.specs.typed_tree.declared.object.ObjectKind.TheVariants as object_kind
+use Rattle.machine.specs.typed_tree.Programs.{TypedSub, text_io, typed_program}
+use Rattle.machine.specs.flow_paths.Objects.{Typing, Signature, object_at, sub_at}
+use Rattle.machine.specs.flow_paths.Laid.{Temporary, temporary_object, NamedSub, FlowProgram, signature, flow_typing, flow_named, flow_program}
 use Rattle.soundness.proofs.Typings.{flow_agrees}
 use Rattle.sound_files.specs.CalledSubs.Called.{HaveBodies}
 use Rattle.soundness.specs.TypedLaws.TypedSteps.Steps.{IsTypedStep, AreTyped}

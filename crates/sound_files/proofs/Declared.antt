@@ -2,28 +2,28 @@
 use Rattle.std.proofs.Common.{◌≡◌, refl, sym, ap, ◌∙◌, subst, ◌⊎◌, inl, inr, ℕ, zero, suc, ◌+◌, Bool, true, false, not, ◌&&◌, List, [], ◌∷◌, ◌++◌, map, flat_map, get_or, nat_eq, arith, None, is_some}
 use Rattle.std.specs.List.{position_or_len, AllByRecursion}
 use Rattle.std.proofs.lemmas.Bool.{false≢true}
-use Rattle.spark_base.specs.Lists.{Has}
-use Rattle.spark_base.specs.declared.position.Pos.{Pos}
-use Rattle.place_names.specs.declared.act.Mode.{Mode}
-use Rattle.place_names.specs.declared.act.Mode.TheVariants as mode
-use Rattle.spark_base.proofs.Lists.{Has-append_cases, Has-append_left, Has-append_right}
-use Rattle.resolved_tree.specs.Trees.{Tree, Named, Code, Objects, Numbers, Formals, SubBody, Package, PackageBody, If, Branch, Case, When, Loop, While, For, Block, Call, More, Program, code_items}
-use Rattle.type_definitions.specs.declared.table.Entry.{Entry}
-use Rattle.type_definitions.specs.declared.table.Entry.TheVariants as entry
-use Rattle.type_definitions.specs.declared.table.Kind.{Kind}
-use Rattle.type_definitions.specs.declared.table.Predefined.TheVariants as predefined
-use Rattle.type_definitions.specs.declared.table.Known.{Known}
-use Rattle.type_definitions.specs.Entries.{entry_of}
-use Rattle.type_definitions.specs.Names.{Context}
-use Rattle.type_definitions.specs.Gathered.{declared_number, declared_text, object_kind, in_subprogram, in_visible, in_hidden}
-use Rattle.type_definitions.specs.Whole.{outside, known_of}
-use Rattle.typed_tree.specs.declared.object.ObjectKind.{ObjectKind}
-use Rattle.typed_tree.specs.Trees.{TypedTree, TypedCode, typed_code_list}
-use Rattle.typed_tree.specs.Expressions.{Site, object_number}
-use Rattle.typed_tree.specs.Statements.{scope_count, statements, typed_object, typed_call, call_of}
-use Rattle.typed_tree.specs.Programs.{kind_of, entry_kind, TypedSub, DeclaredObject, Home, object_of, formals_of, front_formals, objects_in, local, in_package, package_text, program_objects, text_io, placed, subs_in, over_units, elaborated, site_of, typed_program}
-use Rattle.flow_paths.specs.Laid.{declared_within}
-use Rattle.flow_paths.specs.Objects.{object_at, is_formal, is_formal_kind, is_state, is_package_object}
+use Rattle.machine.specs.spark_base.Lists.{Has}
+use Rattle.machine.specs.spark_base.declared.position.Pos.{Pos}
+use Rattle.machine.specs.place_names.declared.act.Mode.{Mode}
+use Rattle.machine.specs.place_names.declared.act.Mode.TheVariants as mode
+use Rattle.soundness.proofs.Lists.{Has-append_cases, Has-append_left, Has-append_right}
+use Rattle.machine.specs.resolved_tree.Trees.{Tree, Named, Code, Objects, Numbers, Formals, SubBody, Package, PackageBody, If, Branch, Case, When, Loop, While, For, Block, Call, More, Program, code_items}
+use Rattle.machine.specs.type_definitions.declared.table.Entry.{Entry}
+use Rattle.machine.specs.type_definitions.declared.table.Entry.TheVariants as entry
+use Rattle.machine.specs.type_definitions.declared.table.Kind.{Kind}
+use Rattle.machine.specs.type_definitions.declared.table.Predefined.TheVariants as predefined
+use Rattle.machine.specs.type_definitions.declared.table.Known.{Known}
+use Rattle.machine.specs.type_definitions.Entries.{entry_of}
+use Rattle.machine.specs.type_definitions.Names.{Context}
+use Rattle.machine.specs.type_definitions.Gathered.{declared_number, declared_text, object_kind, in_subprogram, in_visible, in_hidden}
+use Rattle.machine.specs.type_definitions.Whole.{outside, known_of}
+use Rattle.machine.specs.typed_tree.declared.object.ObjectKind.{ObjectKind}
+use Rattle.machine.specs.typed_tree.Trees.{TypedTree, TypedCode, typed_code_list}
+use Rattle.machine.specs.typed_tree.Expressions.{Site, object_number}
+use Rattle.machine.specs.typed_tree.Statements.{scope_count, statements, typed_object, typed_call, call_of}
+use Rattle.machine.specs.typed_tree.Programs.{kind_of, entry_kind, TypedSub, DeclaredObject, Home, object_of, formals_of, front_formals, objects_in, local, in_package, package_text, program_objects, text_io, placed, subs_in, over_units, elaborated, site_of, typed_program}
+use Rattle.machine.specs.flow_paths.Laid.{declared_within}
+use Rattle.machine.specs.flow_paths.Objects.{object_at, is_formal, is_formal_kind, is_state, is_package_object}
 use Rattle.sound_files.specs.MeantFiles.Typed.{IsOf, AreIndicated, AreIntegers, AreTyped}
 use Rattle.sound_files.proofs.MeantFiles.Objects.{object_numbers, units_same}
 use Rattle.settled_types.proofs.OrderLaws.ScopeLaws.Lists.{all_both}

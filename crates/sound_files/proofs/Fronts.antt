@@ -2,8 +2,8 @@
 use Rattle.std.proofs.Common.{sym, subst, inl, inr, List, [], ◌∷◌, map, Option, None, Some}
 use Rattle.std.specs.Prelude.{flat_map}
 use Rattle.std.specs.List.{AllByRecursion}
-use Rattle.spark_base.specs.Lists.{Has}
-use Rattle.spark_base.proofs.Lists.{Has-append_cases}
+use Rattle.machine.specs.spark_base.Lists.{Has}
+use Rattle.soundness.proofs.Lists.{Has-append_cases}
 use Rattle.ada_tree.specs.declared.declaration.Item.{Item}
 use Rattle.ada_tree.specs.declared.declaration.Item.TheVariants as item
 use Rattle.ada_tree.specs.declared.statement.Stmts.{Stmts, Row_of-Stmt, end_of-Stmt, more_of-Stmt}
@@ -22,7 +22,7 @@ use Rattle.ada_tree.specs.declared.unit.PrivatePart.{PrivatePart}
 use Rattle.ada_tree.specs.declared.unit.BodyPart.{BodyPart}
 use Rattle.ada_tree.specs.declared.unit.BodyPart.TheVariants as part
 use Rattle.ada_tree.specs.declared.unit.SubprogramBody.{SubprogramBody}
-use Rattle.resolved_tree.specs.Trees.{Code, code_list}
+use Rattle.machine.specs.resolved_tree.Trees.{Code, code_list}
 use Rattle.expression_lowering.specs.LoweredExpressions.{Numbers}
 use Rattle.tree_lowering.specs.Lowered.{lowered_subtype, lowered_type, lowered_declaration, item_before, before_all, lowered_items, lowered_simple, lowered_stmts, lowered_stmt_box, stmts_row, lowered_stmt, lowered_stmts_box, elsifs_row, lowered_elsif, lowered_when_box, whens_row, lowered_when, lowered_subprogram, decl_before, part_before, lowered_decls, lowered_private, lowered_package, lowered_package_body, lowered_unit, lowered_files}
 use Rattle.settled_types.specs.NamedFiles.Formals.{IsFrontApart, AreFormalsApart}

@@ -2,25 +2,25 @@
 use Rattle.std.proofs.Common.{◌≡◌, refl, sym, ap, ◌∙◌, subst, inl, inr, ℕ, suc, ◌+◌, Bool, true, false, not, ◌&&◌, List, [], ◌∷◌, ◌++◌, map, flat_map, get_or, nat_eq, arith, Option, Some, None, is_some}
 use Rattle.std.specs.List.{position_or_len}
 use Rattle.std.proofs.lemmas.Bool.{false≢true}
-use Rattle.spark_base.specs.Lists.{Has}
-use Rattle.spark_base.proofs.Lists.{Has-append_cases, Has-append_left, Has-append_right}
-use Rattle.place_names.specs.declared.act.Mode.{Mode}
-use Rattle.place_names.specs.declared.act.Mode.TheVariants as mode
-use Rattle.resolved_tree.specs.Trees.{Code, More, Formals, Front, SubBody, PackageBody, Program, code_items}
-use Rattle.type_definitions.specs.declared.table.Known.{Known}
-use Rattle.type_definitions.specs.declared.judgement.Fault.{Fault}
-use Rattle.type_definitions.specs.Faults.{demand}
-use Rattle.type_definitions.specs.Names.{Context}
-use Rattle.type_definitions.specs.Entries.{entry_of}
-use Rattle.type_definitions.specs.Expressions.{is_in, is_traversal, profile_of}
-use Rattle.type_definitions.specs.Gathered.{front_number, declared_number, declared_pos, in_hidden, profile_from, anonymous_result, formal_infos, result_indicated}
-use Rattle.type_definitions.specs.Declarations.{group_faults, formals_group, formals_faults, result_faults, has_none, front_faults, body_faults, code_faults, in_body, same_formals, same_result, agrees}
-use Rattle.type_definitions.specs.Whole.{outside, known_of}
-use Rattle.typed_tree.specs.declared.object.Object.{Object}
-use Rattle.typed_tree.specs.Expressions.{Site, object_number}
-use Rattle.typed_tree.specs.Statements.{scope_count}
-use Rattle.typed_tree.specs.Programs.{TypedSub, DeclaredObject, Home, object_of, objects_of, formals_of, objects_in, program_objects, text_io, local, in_package, package_text, front_formals, formal_numbers, placed, subs_in, over_units, site_of, typed_program}
-use Rattle.flow_paths.specs.Objects.{object_at}
+use Rattle.machine.specs.spark_base.Lists.{Has}
+use Rattle.soundness.proofs.Lists.{Has-append_cases, Has-append_left, Has-append_right}
+use Rattle.machine.specs.place_names.declared.act.Mode.{Mode}
+use Rattle.machine.specs.place_names.declared.act.Mode.TheVariants as mode
+use Rattle.machine.specs.resolved_tree.Trees.{Code, More, Formals, Front, SubBody, PackageBody, Program, code_items}
+use Rattle.machine.specs.type_definitions.declared.table.Known.{Known}
+use Rattle.machine.specs.type_definitions.declared.judgement.Fault.{Fault}
+use Rattle.machine.specs.type_definitions.Faults.{demand}
+use Rattle.machine.specs.type_definitions.Names.{Context}
+use Rattle.machine.specs.type_definitions.Entries.{entry_of}
+use Rattle.machine.specs.type_definitions.Expressions.{is_in, is_traversal, profile_of}
+use Rattle.machine.specs.type_definitions.Gathered.{front_number, declared_number, declared_pos, in_hidden, profile_from, anonymous_result, formal_infos, result_indicated}
+use Rattle.machine.specs.type_definitions.Declarations.{group_faults, formals_group, formals_faults, result_faults, has_none, front_faults, body_faults, code_faults, in_body, same_formals, same_result, agrees}
+use Rattle.machine.specs.type_definitions.Whole.{outside, known_of}
+use Rattle.machine.specs.typed_tree.declared.object.Object.{Object}
+use Rattle.machine.specs.typed_tree.Expressions.{Site, object_number}
+use Rattle.machine.specs.typed_tree.Statements.{scope_count}
+use Rattle.machine.specs.typed_tree.Programs.{TypedSub, DeclaredObject, Home, object_of, objects_of, formals_of, objects_in, program_objects, text_io, local, in_package, package_text, front_formals, formal_numbers, placed, subs_in, over_units, site_of, typed_program}
+use Rattle.machine.specs.flow_paths.Objects.{object_at}
 use Rattle.settled_types.proofs.OrderLaws.ScopeLaws.Lists.{and_second}
 use Rattle.settled_types.specs.OrderLaws.ScopeLaws.Code.{Once}
 use Rattle.settled_types.specs.OrderLaws.Orderly.{typing_in, bodies_of}

@@ -1,14 +1,14 @@
 -- Each object of a typed program is of the kind that is known of its declaration.
 use Rattle.std.proofs.Common.{◌≡◌, refl, ℕ, ◌+◌, List, [], ◌∷◌, ◌++◌, map, flat_map, Option, Some, None}
 use Rattle.std.specs.List.{AllByRecursion}
-use Rattle.place_names.specs.declared.act.Mode.{Mode}
-use Rattle.place_names.specs.declared.act.Mode.TheVariants as mode
-use Rattle.resolved_tree.specs.Trees.{Code, Objects, Numbers, Formals, SubBody, Package, PackageBody, If, Branch, Case, When, Loop, While, For, Block, More, code_items}
-use Rattle.type_definitions.specs.declared.table.Known.{Known}
-use Rattle.type_definitions.specs.Entries.{entry_of}
-use Rattle.type_definitions.specs.Gathered.{declared_number, declared_text}
-use Rattle.typed_tree.specs.Statements.{scope_count}
-use Rattle.typed_tree.specs.Programs.{entry_kind, DeclaredObject, Home, object_of, formals_of, front_formals, package_text, objects_in, program_objects, over_units}
+use Rattle.machine.specs.place_names.declared.act.Mode.{Mode}
+use Rattle.machine.specs.place_names.declared.act.Mode.TheVariants as mode
+use Rattle.machine.specs.resolved_tree.Trees.{Code, Objects, Numbers, Formals, SubBody, Package, PackageBody, If, Branch, Case, When, Loop, While, For, Block, More, code_items}
+use Rattle.machine.specs.type_definitions.declared.table.Known.{Known}
+use Rattle.machine.specs.type_definitions.Entries.{entry_of}
+use Rattle.machine.specs.type_definitions.Gathered.{declared_number, declared_text}
+use Rattle.machine.specs.typed_tree.Statements.{scope_count}
+use Rattle.machine.specs.typed_tree.Programs.{entry_kind, DeclaredObject, Home, object_of, formals_of, front_formals, package_text, objects_in, program_objects, over_units}
 
 module _ (known : Known) where
   abbrev pub IsKinded : DeclaredObject → Type 0

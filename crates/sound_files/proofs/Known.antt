@@ -2,19 +2,19 @@
 use Rattle.std.proofs.Common.{◌≡◌, refl, sym, ap, ◌∙◌, subst, inl, inr, ℕ, suc, ◌+◌, Bool, true, false, not, cond, List, [], ◌∷◌, ◌++◌, map, flat_map, get_or, nat_eq, arith, None}
 use Rattle.std.specs.List.{position_or_len}
 use Rattle.std.proofs.lemmas.Bool.{eqb-true, eq-eqb}
-use Rattle.spark_base.specs.Lists.{Has}
-use Rattle.spark_base.proofs.Lists.{Has-append_cases, Has-append_left, Has-append_right}
-use Rattle.resolved_tree.specs.Trees.{Code, More, Formals, Front, SubBody, PackageBody, Program, code_items}
-use Rattle.type_definitions.specs.declared.table.Known.{Known}
-use Rattle.type_definitions.specs.Entries.{entry_of}
-use Rattle.type_definitions.specs.Names.{Context}
-use Rattle.type_definitions.specs.Gathered.{declared_number, in_hidden}
-use Rattle.type_definitions.specs.Whole.{outside, known_of}
-use Rattle.typed_tree.specs.declared.object.ObjectKind.TheVariants as object_kind
-use Rattle.typed_tree.specs.Expressions.{Site, object_number}
-use Rattle.typed_tree.specs.Statements.{scope_count}
-use Rattle.typed_tree.specs.Programs.{kind_of, entry_kind, TypedSub, DeclaredObject, program_objects, text_io, front_formals, formal_numbers, placed, subs_in, over_units, site_of, typed_program}
-use Rattle.flow_paths.specs.Objects.{is_formal, is_formal_kind}
+use Rattle.machine.specs.spark_base.Lists.{Has}
+use Rattle.soundness.proofs.Lists.{Has-append_cases, Has-append_left, Has-append_right}
+use Rattle.machine.specs.resolved_tree.Trees.{Code, More, Formals, Front, SubBody, PackageBody, Program, code_items}
+use Rattle.machine.specs.type_definitions.declared.table.Known.{Known}
+use Rattle.machine.specs.type_definitions.Entries.{entry_of}
+use Rattle.machine.specs.type_definitions.Names.{Context}
+use Rattle.machine.specs.type_definitions.Gathered.{declared_number, in_hidden}
+use Rattle.machine.specs.type_definitions.Whole.{outside, known_of}
+use Rattle.machine.specs.typed_tree.declared.object.ObjectKind.TheVariants as object_kind
+use Rattle.machine.specs.typed_tree.Expressions.{Site, object_number}
+use Rattle.machine.specs.typed_tree.Statements.{scope_count}
+use Rattle.machine.specs.typed_tree.Programs.{kind_of, entry_kind, TypedSub, DeclaredObject, program_objects, text_io, front_formals, formal_numbers, placed, subs_in, over_units, site_of, typed_program}
+use Rattle.machine.specs.flow_paths.Objects.{is_formal, is_formal_kind}
 use Rattle.sound_files.specs.SeenFiles.Fits.{all_numbers, group_numbers, front_numbers}
 use Rattle.sound_files.specs.MeantFiles.Typed.{AreOf, IsGroupTyped, AreGroupsTyped, IsFrontTyped, AreTyped}
 use Rattle.sound_files.proofs.MeantFiles.Objects.{object_numbers, units_same}

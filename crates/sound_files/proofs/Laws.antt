@@ -4,12 +4,12 @@ use Rattle.ada_tree.specs.declared.unit.SourceUnit.{SourceUnit}
 use Rattle.name_events.specs.Outline.{source_events}
 use Rattle.name_events.specs.Identified.{identified}
 use Rattle.name_events.specs.Faults.{name_fault}
-use Rattle.resolved_tree.specs.Trees.{Code, Program}
-use Rattle.type_definitions.specs.Whole.{at_first, outside, known_of, type_fault}
-use Rattle.type_definitions.specs.Types.{full, is_scalar}
-use Rattle.type_definitions.specs.Entries.{integer, boolean}
+use Rattle.machine.specs.resolved_tree.Trees.{Code, Program}
+use Rattle.machine.specs.type_definitions.Whole.{at_first, outside, known_of, type_fault}
+use Rattle.machine.specs.type_definitions.Types.{full, is_scalar}
+use Rattle.machine.specs.type_definitions.Entries.{integer, boolean}
 use Rattle.typing_steps.specs.Programs.{program_of}
-use Rattle.typed_tree.specs.Programs.{site_of}
+use Rattle.machine.specs.typed_tree.Programs.{site_of}
 use Rattle.type_sizes.specs.Formed.{all_formed}
 use Rattle.type_rules.proofs.Formed.{files_formed}
 use Rattle.soundness.specs.TypedLaws.Fine.{Laws}
@@ -36,7 +36,7 @@ use Rattle.settled_types.specs.SteadyTypes.Kept.{AreKept}
 use Rattle.settled_types.proofs.SteadyTypes.Main.{alike, steady}
 use Rattle.sound_files.proofs.Flat.{unit_flat}
 use Rattle.sound_files.proofs.Written.{files_written}
-use Rattle.spark_base.specs.Lists.{Has}
+use Rattle.machine.specs.spark_base.Lists.{Has}
 
 -- There is a row for each declaration.
 long : (p : Program) → IsInOrder p → AllOpen (known_of p) p.units → p.count ≤ length (known_of p).table

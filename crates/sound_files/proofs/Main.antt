@@ -4,10 +4,10 @@ use Rattle.ada_tree.specs.declared.unit.SourceUnit.{SourceUnit}
 use Rattle.name_events.specs.Outline.{source_events}
 use Rattle.name_events.specs.Identified.{identified}
 use Rattle.name_events.specs.Faults.{name_fault}
-use Rattle.resolved_tree.specs.Trees.{Program}
+use Rattle.machine.specs.resolved_tree.Trees.{Program}
 use Rattle.typing_steps.specs.Programs.{program_of}
-use Rattle.type_definitions.specs.Types.{Table}
-use Rattle.type_definitions.specs.Whole.{outside, known_of, type_fault}
+use Rattle.machine.specs.type_definitions.Types.{Table}
+use Rattle.machine.specs.type_definitions.Whole.{outside, known_of, type_fault}
 use Rattle.settled_types.specs.Orderly.{at_start}
 use Rattle.settled_types.specs.OrderlyFiles.Apart.{AreApart}
 use Rattle.settled_types.specs.OrderlyFiles.Ended.{AllEnded}

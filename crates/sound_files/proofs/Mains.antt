@@ -3,22 +3,22 @@ use Rattle.std.proofs.Common.{◌≡◌, refl, sym, ap, ◌∙◌, subst, inl, i
 use Rattle.std.proofs.lemmas.Bool.{false≢true, true≢false}
 use Rattle.std.specs.Prelude.{flat_map}
 use Rattle.std.specs.List.{position_or_len}
-use Rattle.spark_base.specs.Lists.{Has}
-use Rattle.spark_base.specs.declared.position.Pos.{Pos}
-use Rattle.resolved_tree.specs.Trees.{Code, Front, Formals, SubBody, PackageBody, NoMore, More, code_items, Program}
-use Rattle.type_definitions.specs.declared.table.FormalInfo.{FormalInfo}
-use Rattle.type_definitions.specs.declared.table.Known.{Known}
-use Rattle.type_definitions.specs.Types.{Table, is_nil}
-use Rattle.type_definitions.specs.Names.{Context}
-use Rattle.type_definitions.specs.Faults.{demand}
-use Rattle.type_definitions.specs.Entries.{entry_of}
-use Rattle.type_definitions.specs.Expressions.{profile_of}
-use Rattle.type_definitions.specs.Gathered.{front_number, in_hidden, declared_number, formal_infos, formal_groups, anonymous_result}
-use Rattle.type_definitions.specs.Declarations.{code_faults, body_faults, front_faults, front_pos, agrees, in_body, same_formals, same_result}
-use Rattle.type_definitions.specs.Whole.{outside, known_of, is_formless, type_fault}
-use Rattle.typed_tree.specs.Expressions.{Site, object_number}
-use Rattle.typed_tree.specs.Statements.{scope_count}
-use Rattle.typed_tree.specs.Programs.{TypedSub, subs_in, placed, bodies_in, over_units, site_of, formal_numbers, front_formals, typed_program}
+use Rattle.machine.specs.spark_base.Lists.{Has}
+use Rattle.machine.specs.spark_base.declared.position.Pos.{Pos}
+use Rattle.machine.specs.resolved_tree.Trees.{Code, Front, Formals, SubBody, PackageBody, NoMore, More, code_items, Program}
+use Rattle.machine.specs.type_definitions.declared.table.FormalInfo.{FormalInfo}
+use Rattle.machine.specs.type_definitions.declared.table.Known.{Known}
+use Rattle.machine.specs.type_definitions.Types.{Table, is_nil}
+use Rattle.machine.specs.type_definitions.Names.{Context}
+use Rattle.machine.specs.type_definitions.Faults.{demand}
+use Rattle.machine.specs.type_definitions.Entries.{entry_of}
+use Rattle.machine.specs.type_definitions.Expressions.{profile_of}
+use Rattle.machine.specs.type_definitions.Gathered.{front_number, in_hidden, declared_number, formal_infos, formal_groups, anonymous_result}
+use Rattle.machine.specs.type_definitions.Declarations.{code_faults, body_faults, front_faults, front_pos, agrees, in_body, same_formals, same_result}
+use Rattle.machine.specs.type_definitions.Whole.{outside, known_of, is_formless, type_fault}
+use Rattle.machine.specs.typed_tree.Expressions.{Site, object_number}
+use Rattle.machine.specs.typed_tree.Statements.{scope_count}
+use Rattle.machine.specs.typed_tree.Programs.{TypedSub, subs_in, placed, bodies_in, over_units, site_of, formal_numbers, front_formals, typed_program}
 use Rattle.settled_types.proofs.OrderLaws.ScopeLaws.Lists.{and_first}
 use Rattle.settled_types.specs.OrderLaws.ReadyLaws.InOrder.{IsSub}
 use Rattle.settled_types.specs.OrderLaws.Written.{is_procedure, is_unit, are_declarations, are_statements}

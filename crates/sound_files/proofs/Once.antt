@@ -1,8 +1,8 @@
 -- In the code of files each declaration of an object has a number of its own: numbers are given in the order of
 -- the text.
 use Rattle.std.proofs.Common.{◌≡◌, inl, inr, ℕ, suc, ◌<◌, ◌≤◌, Bool, false, not, ◌&&◌, List, [], ◌∷◌, ◌++◌, map, flat_map, length, refl, sym, ap, ◌∙◌, arith, Option, Some, None, subst, append_assoc, length-append, if◌then◌else◌}
-use Rattle.spark_base.specs.Lists.{Has}
-use Rattle.spark_base.proofs.Lists.{Has-append_cases}
+use Rattle.machine.specs.spark_base.Lists.{Has}
+use Rattle.soundness.proofs.Lists.{Has-append_cases}
 use Rattle.ada_tree.specs.declared.identifier.Identifier.{Identifier}
 use Rattle.ada_tree.specs.declared.identifier.NextIdentifier.{NextIdentifier}
 use Rattle.ada_tree.specs.declared.identifier.NextIdentifier.TheVariants as next_id
@@ -50,12 +50,12 @@ use Rattle.name_events.specs.Denotes.{decl_infos}
 use Rattle.name_events.specs.Identified.{identified, completed_or_next}
 use Rattle.name_events.specs.ExpressionOutline.{declares, declares_all, next_name, folded, folded_identifier, mention, each_of, expr_events, range_events, choice_events, next_choice_events}
 use Rattle.name_events.specs.Outline.{indication_events, item_events, parameter_events, block_events, stmts_events, stmt_box_events, stmt_list_events, stmt_events, stmts_box_events, elsifs_events, elsif_events, when_box_events, whens_events, when_events, formal_events, next_formal_events, formals_events, subspec_events, body_form, subspec_name, closing_events, subprogram_events, decl_events, body_part_events, private_events, package_events, package_body_events, unit_front, unit_events, source_events}
-use Rattle.resolved_tree.specs.Trees.{Code, code_list, code_items}
+use Rattle.machine.specs.resolved_tree.Trees.{Code, code_list, code_items}
 use Rattle.expression_lowering.specs.LoweredExpressions.{number_of}
 use Rattle.tree_lowering.specs.Lowered.{declared_next, declared_all, lowered_subtype, lowered_type, lowered_declaration, item_before, before_all, lowered_items, lowered_simple, lowered_stmts, lowered_stmt_box, stmts_row, lowered_stmt, lowered_stmts_box, elsifs_row, lowered_elsif, lowered_when_box, whens_row, lowered_when, lowered_formal, lowered_next_formal, lowered_formals, lowered_subspec, lowered_subprogram, decl_before, part_before, lowered_decls, lowered_private, lowered_package, lowered_package_body, lowered_unit, lowered_files}
 use Rattle.typing_steps.specs.Programs.{program_of}
-use Rattle.type_definitions.specs.declared.table.Known.{Known as TypesKnown}
-use Rattle.typed_tree.specs.Programs.{DeclaredObject, program_objects}
+use Rattle.machine.specs.type_definitions.declared.table.Known.{Known as TypesKnown}
+use Rattle.machine.specs.typed_tree.Programs.{DeclaredObject, program_objects}
 use Rattle.settled_types.specs.OrderlyFiles.Apart.{AreApart}
 use Rattle.settled_types.specs.OrderlyFiles.Numbered.{AreNumbered}
 use Rattle.settled_types.proofs.OrderlyFiles.Declares.{numbered_both, behind_both}

@@ -2,14 +2,14 @@
 use Rattle.std.proofs.Common.{◌≡◌, sym, ap, ◌∙◌, subst, inl, inr, ℕ, suc, true, List, [], Some, None}
 use Rattle.std.proofs.lemmas.Bool.{false≢true}
 use Rattle.std.specs.Prelude.{is_some}
-use Rattle.spark_base.specs.Lists.{Has}
-use Rattle.place_names.specs.declared.act.Mode.TheVariants as mode
-use Rattle.resolved_tree.specs.Trees.{Program}
-use Rattle.type_definitions.specs.Types.{Table}
-use Rattle.type_definitions.specs.Whole.{known_of}
-use Rattle.typed_tree.specs.Programs.{TypedSub, typed_program}
-use Rattle.flow_paths.specs.Objects.{Typing, Signature, object_at, sub_at, is_formal}
-use Rattle.flow_paths.specs.Laid.{FlowProgram, flow_typing, flow_program}
+use Rattle.machine.specs.spark_base.Lists.{Has}
+use Rattle.machine.specs.place_names.declared.act.Mode.TheVariants as mode
+use Rattle.machine.specs.resolved_tree.Trees.{Program}
+use Rattle.machine.specs.type_definitions.Types.{Table}
+use Rattle.machine.specs.type_definitions.Whole.{known_of}
+use Rattle.machine.specs.typed_tree.Programs.{TypedSub, typed_program}
+use Rattle.machine.specs.flow_paths.Objects.{Typing, Signature, object_at, sub_at, is_formal}
+use Rattle.machine.specs.flow_paths.Laid.{FlowProgram, flow_typing, flow_program}
 use Rattle.soundness.proofs.Typings.{Agree, flow_agrees, formal_same}
 use Rattle.settled_types.specs.OrderLaws.ReadyLaws.InOrder.{IsSub}
 use Rattle.settled_types.specs.OrderLaws.Orderly.{typed_of, typing_in, bodies_of}

@@ -2,17 +2,17 @@
 use Rattle.std.specs.List.{list_any}
 use Rattle.std.proofs.Common.{◌≡◌, refl, sym, ap, ◌∙◌, subst, ◌⊎◌, inl, inr, ℕ, zero, suc, ◌+◌, Bool, true, false, not, ◌&&◌, ◌||◌, ◌==◌, List, [], ◌∷◌, ◌++◌, map, flat_map, append_assoc, get_or, Option, Some, None, is_some}
 use Rattle.std.proofs.lemmas.Bool.{eqb-true, false≢true}
-use Rattle.spark_base.specs.Lists.{Has}
-use Rattle.spark_base.proofs.Lists.{Has-append_left, Has-append_right, Has-map_from}
-use Rattle.resolved_tree.specs.Trees.{Code, SubBody, PackageBody, More, Program}
-use Rattle.type_definitions.specs.Gathered.{declared_number, in_hidden}
-use Rattle.type_definitions.specs.Types.{Table}
-use Rattle.type_definitions.specs.Whole.{known_of}
-use Rattle.typed_tree.specs.Expressions.{Site, object_number}
-use Rattle.typed_tree.specs.Statements.{scope_count}
-use Rattle.typed_tree.specs.Programs.{TypedSub, DeclaredObject, Home, formals_of, front_formals, local, in_package, package_text, objects_in, program_objects, placed, subs_in, over_units, site_of, typed_program}
-use Rattle.flow_paths.specs.Objects.{Typing, Signature, sub_at, is_named_access, view_of}
-use Rattle.flow_paths.specs.Laid.{FlowProgram, signature, flow_typing, flow_program}
+use Rattle.machine.specs.spark_base.Lists.{Has}
+use Rattle.soundness.proofs.Lists.{Has-append_left, Has-append_right, Has-map_from}
+use Rattle.machine.specs.resolved_tree.Trees.{Code, SubBody, PackageBody, More, Program}
+use Rattle.machine.specs.type_definitions.Gathered.{declared_number, in_hidden}
+use Rattle.machine.specs.type_definitions.Types.{Table}
+use Rattle.machine.specs.type_definitions.Whole.{known_of}
+use Rattle.machine.specs.typed_tree.Expressions.{Site, object_number}
+use Rattle.machine.specs.typed_tree.Statements.{scope_count}
+use Rattle.machine.specs.typed_tree.Programs.{TypedSub, DeclaredObject, Home, formals_of, front_formals, local, in_package, package_text, objects_in, program_objects, placed, subs_in, over_units, site_of, typed_program}
+use Rattle.machine.specs.flow_paths.Objects.{Typing, Signature, sub_at, is_named_access, view_of}
+use Rattle.machine.specs.flow_paths.Laid.{FlowProgram, signature, flow_typing, flow_program}
 use Rattle.soundness.proofs.Typings.{Agree, flow_agrees}
 use Rattle.soundness.specs.ViewedSoundness.Holds.{is_of_procedure, is_exclusive}
 use Rattle.settled_types.specs.OrderLaws.ScopeLaws.Code.{Once}

@@ -2,16 +2,16 @@
 -- type, or of an anonymous access type.
 use Rattle.std.proofs.Common.{◌≡◌, refl, sym, subst, ℕ, zero, suc, ◌+◌, ◌≤◌, Bool, true, false, not, ◌||◌, List, [], ◌∷◌, set, length, arith, Some, if◌then◌else◌}
 use Rattle.std.specs.Prelude.{slice_get}
-use Rattle.resolved_tree.specs.Trees.{More, Code, Anonymous, Enumeration, Incomplete, Private, TypeDecl, Subtype, ConstrainedSubtype, Objects, Numbers, Instance, Formals, Front, SubDecl, SubBody, Package, PackageBody, If, Branch, Case, When, Loop, While, For, Block, Program}
-use Rattle.type_definitions.specs.declared.table.Info.{Info}
-use Rattle.type_definitions.specs.declared.table.Shape.TheVariants as shape
-use Rattle.type_definitions.specs.declared.table.Entry.TheVariants as entry
-use Rattle.type_definitions.specs.declared.table.Kind.TheVariants as kind
-use Rattle.type_definitions.specs.Types.{Table, info, base, full, shape_found, owns_of, owns_within, is_owning}
-use Rattle.type_definitions.specs.Entries.{entry_of, integer, marked}
-use Rattle.type_definitions.specs.Names.{Context}
-use Rattle.type_definitions.specs.Gathered.{gather, each, own_info, awaited_info, full_info, subtype_info, meant_by, constrained_shape, bound_pair, is_asked, are_static_bounds, with_entry, with_type, with_indication, with_object, constant_value, with_number, initial_value, with_formal, with_formal_group, with_formals, with_result, with_front, with_body_front, with_literals, with_definition, is_subprogram, front_number, in_subprogram, in_visible, in_hidden, declared_number, declared_pos, plain_object, parameter_type}
-use Rattle.type_definitions.specs.Whole.{at_first, outside, gather_units, known_from, known_of}
+use Rattle.machine.specs.resolved_tree.Trees.{More, Code, Anonymous, Enumeration, Incomplete, Private, TypeDecl, Subtype, ConstrainedSubtype, Objects, Numbers, Instance, Formals, Front, SubDecl, SubBody, Package, PackageBody, If, Branch, Case, When, Loop, While, For, Block, Program}
+use Rattle.machine.specs.type_definitions.declared.table.Info.{Info}
+use Rattle.machine.specs.type_definitions.declared.table.Shape.TheVariants as shape
+use Rattle.machine.specs.type_definitions.declared.table.Entry.TheVariants as entry
+use Rattle.machine.specs.type_definitions.declared.table.Kind.TheVariants as kind
+use Rattle.machine.specs.type_definitions.Types.{Table, info, base, full, shape_found, owns_of, owns_within, is_owning}
+use Rattle.machine.specs.type_definitions.Entries.{entry_of, integer, marked}
+use Rattle.machine.specs.type_definitions.Names.{Context}
+use Rattle.machine.specs.type_definitions.Gathered.{gather, each, own_info, awaited_info, full_info, subtype_info, meant_by, constrained_shape, bound_pair, is_asked, are_static_bounds, with_entry, with_type, with_indication, with_object, constant_value, with_number, initial_value, with_formal, with_formal_group, with_formals, with_result, with_front, with_body_front, with_literals, with_definition, is_subprogram, front_number, in_subprogram, in_visible, in_hidden, declared_number, declared_pos, plain_object, parameter_type}
+use Rattle.machine.specs.type_definitions.Whole.{at_first, outside, gather_units, known_from, known_of}
 use Rattle.settled_types.specs.Orderly.{Past, at_start, past_after, within, Orderly, AllOrderly, IsOrderly}
 
 -- The row of Integer owns nothing, whatever owns.

@@ -2,8 +2,8 @@
 use Rattle.std.proofs.Common.{◌≡◌, refl, sym, subst, inl, inr, arith, ℕ, Bool, true, false, ◌&&◌, ◌||◌, List, [], ◌∷◌, ◌++◌, map, Option, None, Some}
 use Rattle.std.specs.Prelude.{flat_map}
 use Rattle.std.specs.List.{AllByRecursion}
-use Rattle.spark_base.specs.Lists.{Has}
-use Rattle.spark_base.proofs.Lists.{Has-append_cases}
+use Rattle.machine.specs.spark_base.Lists.{Has}
+use Rattle.soundness.proofs.Lists.{Has-append_cases}
 use Rattle.ada_tree.specs.declared.declaration.Item.{Item}
 use Rattle.ada_tree.specs.declared.declaration.Item.TheVariants as item
 use Rattle.ada_tree.specs.declared.statement.Stmts.{Stmts, Row_of-Stmt, end_of-Stmt, more_of-Stmt}
@@ -24,18 +24,18 @@ use Rattle.ada_tree.specs.declared.unit.PrivatePart.{PrivatePart}
 use Rattle.ada_tree.specs.declared.unit.BodyPart.{BodyPart}
 use Rattle.ada_tree.specs.declared.unit.BodyPart.TheVariants as part
 use Rattle.ada_tree.specs.declared.unit.SubprogramBody.{SubprogramBody}
-use Rattle.resolved_tree.specs.Trees.{Code, code_list, NoMore, Exit, If, Branch, Case, When as Alternative, Block, More, SubDecl}
+use Rattle.machine.specs.resolved_tree.Trees.{Code, code_list, NoMore, Exit, If, Branch, Case, When as Alternative, Block, More, SubDecl}
 use Rattle.expression_lowering.specs.LoweredExpressions.{Numbers}
 use Rattle.tree_lowering.specs.Lowered.{declared, lowered_subtype, lowered_type, lowered_declaration, item_before, before_all, lowered_items, lowered_simple, lowered_stmts, lowered_stmt_box, stmts_row, lowered_stmt, lowered_stmts_box, elsifs_row, lowered_elsif, lowered_when_box, whens_row, lowered_when, lowered_subspec, lowered_subprogram, decl_before, part_before, lowered_decls, lowered_private, lowered_package, lowered_package_body, lowered_unit, lowered_files}
-use Rattle.type_definitions.specs.declared.judgement.Where.TheVariants as stands
-use Rattle.type_definitions.specs.Entries.{boolean}
-use Rattle.type_definitions.specs.Faults.{demand}
-use Rattle.type_definitions.specs.Names.{Context}
-use Rattle.type_definitions.specs.Expressions.{faults, own_type}
-use Rattle.type_definitions.specs.Statements.{condition, coverage, type_or_integer, is_one_choice}
-use Rattle.type_definitions.specs.Gathered.{declared_number, in_hidden}
-use Rattle.type_definitions.specs.Declarations.{code_faults, alternatives_faults, alternative_faults, body_faults, in_body, choices_of, choices_faults, selector_faults, is_last}
-use Rattle.resolved_tree.specs.Trees.{code_items}
+use Rattle.machine.specs.type_definitions.declared.judgement.Where.TheVariants as stands
+use Rattle.machine.specs.type_definitions.Entries.{boolean}
+use Rattle.machine.specs.type_definitions.Faults.{demand}
+use Rattle.machine.specs.type_definitions.Names.{Context}
+use Rattle.machine.specs.type_definitions.Expressions.{faults, own_type}
+use Rattle.machine.specs.type_definitions.Statements.{condition, coverage, type_or_integer, is_one_choice}
+use Rattle.machine.specs.type_definitions.Gathered.{declared_number, in_hidden}
+use Rattle.machine.specs.type_definitions.Declarations.{code_faults, alternatives_faults, alternative_faults, body_faults, in_body, choices_of, choices_faults, selector_faults, is_last}
+use Rattle.machine.specs.resolved_tree.Trees.{code_items}
 use Rattle.settled_types.specs.NamedFiles.Library.{is_procedure_spec, is_no_function}
 use Rattle.settled_types.specs.OrderLaws.Written.{is_declaration, are_declarations, are_statements, is_statement, are_branches, is_branch, are_alternatives, is_alternative, is_body, are_parts, is_procedure, is_unit}
 use Rattle.settled_types.proofs.OrderLaws.Mains.{nothing_left, nothing_right, demanded}

@@ -3,23 +3,23 @@ use Rattle.std.proofs.Common.{◌≡◌, inl, inr, ℕ, zero, suc, ◌+◌, ◌<
 use Rattle.std.specs.Prelude.{flat_map, is_some}
 use Rattle.std.specs.List.{AllByRecursion, position_or_len}
 use Rattle.std.proofs.lemmas.List.{length-map}
-use Rattle.spark_base.specs.Lists.{Has}
-use Rattle.resolved_tree.specs.Trees.{Code, More, SubBody, PackageBody, Program}
-use Rattle.type_definitions.specs.Entries.{entry_of}
-use Rattle.type_definitions.specs.Gathered.{declared_number, in_hidden}
-use Rattle.type_definitions.specs.Types.{Table}
-use Rattle.type_definitions.specs.Whole.{known_of}
-use Rattle.typed_tree.specs.Trees.{TypedTree}
-use Rattle.typed_tree.specs.Expressions.{Site, sub_number}
-use Rattle.typed_tree.specs.Statements.{scope_count}
-use Rattle.typed_tree.specs.Programs.{TypedSub, TypedProgram, placed, site_of, bodies_in, subs_in, over_units, typed_program}
-use Rattle.flow_paths.specs.Instructions.{Call}
-use Rattle.flow_paths.specs.Objects.{Typing}
-use Rattle.flow_paths.specs.Acts.{Frame}
-use Rattle.flow_paths.specs.Points.{PointName, NamedPoint, entry, flow_point}
-use Rattle.flow_paths.specs.Prep.{Setting}
-use Rattle.flow_paths.specs.Layout.{laid}
-use Rattle.flow_paths.specs.Laid.{NamedSub, around_body, procedure_end, function_end, body_points, sub_points, sub_temporaries, named_subs, all_named, flow_sub, FlowProgram, typing_of, flow_program}
+use Rattle.machine.specs.spark_base.Lists.{Has}
+use Rattle.machine.specs.resolved_tree.Trees.{Code, More, SubBody, PackageBody, Program}
+use Rattle.machine.specs.type_definitions.Entries.{entry_of}
+use Rattle.machine.specs.type_definitions.Gathered.{declared_number, in_hidden}
+use Rattle.machine.specs.type_definitions.Types.{Table}
+use Rattle.machine.specs.type_definitions.Whole.{known_of}
+use Rattle.machine.specs.typed_tree.Trees.{TypedTree}
+use Rattle.machine.specs.typed_tree.Expressions.{Site, sub_number}
+use Rattle.machine.specs.typed_tree.Statements.{scope_count}
+use Rattle.machine.specs.typed_tree.Programs.{TypedSub, TypedProgram, placed, site_of, bodies_in, subs_in, over_units, typed_program}
+use Rattle.machine.specs.flow_paths.Instructions.{Call}
+use Rattle.machine.specs.flow_paths.Objects.{Typing}
+use Rattle.machine.specs.flow_paths.Acts.{Frame}
+use Rattle.machine.specs.flow_paths.Points.{PointName, NamedPoint, entry, flow_point}
+use Rattle.machine.specs.flow_paths.Prep.{Setting}
+use Rattle.machine.specs.flow_paths.Layout.{laid}
+use Rattle.machine.specs.flow_paths.Laid.{NamedSub, around_body, procedure_end, function_end, body_points, sub_points, sub_temporaries, named_subs, all_named, flow_sub, FlowProgram, typing_of, flow_program}
 use Rattle.machine.specs.States.{no_sub, sub_of}
 use Rattle.machine.specs.Run.{no_point}
 use Rattle.settled_types.proofs.OrderLaws.ScopeLaws.Lists.{all_both, all_if, all_one}

@@ -2,15 +2,15 @@
 use Rattle.std.proofs.Common.{ℕ, suc, Bool, true, false, List, [], ◌∷◌, ◌++◌, if◌then◌else◌}
 use Rattle.std.specs.Prelude.{None, flat_map, drop, reverse}
 use Rattle.std.specs.List.{AllByRecursion}
-use Rattle.spark_base.specs.declared.position.Pos.{Pos}
-use Rattle.typed_tree.specs.Trees.{TypedTree, Name, Component, Designated, Element, Image, Parens, Unary, Binary, Short, IsNull, Aggregate, Alike, New, TypedCode, Declare, Assign, Skip, Output, Input, Release, If, Branch, Case, When, Loop, While, For, Exit, Return, Block}
-use Rattle.typed_tree.specs.Trees as typed
-use Rattle.flow_paths.specs.Instructions.{Instruction, Evaluate}
-use Rattle.flow_paths.specs.Instructions as instruction
-use Rattle.flow_paths.specs.Names.{has_call}
-use Rattle.flow_paths.specs.Points.{Place, PointName, row_at, NamedPoint, point, entry}
-use Rattle.flow_paths.specs.Prep.{Setting, with_held, prep}
-use Rattle.flow_paths.specs.Layout.{Around, within_loop, within_block, with_scope, declared, from, ending, ends, closing, uses, uses_both, uses_second_first, laid, laid_branches, laid_branch, laid_whens, laid_when}
+use Rattle.machine.specs.spark_base.declared.position.Pos.{Pos}
+use Rattle.machine.specs.typed_tree.Trees.{TypedTree, Name, Component, Designated, Element, Image, Parens, Unary, Binary, Short, IsNull, Aggregate, Alike, New, TypedCode, Declare, Assign, Skip, Output, Input, Release, If, Branch, Case, When, Loop, While, For, Exit, Return, Block}
+use Rattle.machine.specs.typed_tree.Trees as typed
+use Rattle.machine.specs.flow_paths.Instructions.{Instruction, Evaluate}
+use Rattle.machine.specs.flow_paths.Instructions as instruction
+use Rattle.machine.specs.flow_paths.Names.{has_call}
+use Rattle.machine.specs.flow_paths.Points.{Place, PointName, row_at, NamedPoint, point, entry}
+use Rattle.machine.specs.flow_paths.Prep.{Setting, with_held, prep}
+use Rattle.machine.specs.flow_paths.Layout.{Around, within_loop, within_block, with_scope, declared, from, ending, ends, closing, uses, uses_both, uses_second_first, laid, laid_branches, laid_branch, laid_whens, laid_when}
 use Rattle.settled_types.proofs.OrderLaws.ScopeLaws.Lists.{all_both, all_one}
 use Rattle.sound_files.specs.CalledSubs.Called.{Calls, CodeCalls, PointCalls}
 

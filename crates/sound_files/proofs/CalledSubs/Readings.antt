@@ -1,21 +1,21 @@
 -- What a name calls is known as a subprogram.
 use Rattle.std.proofs.Common.{◌≡◌, ℕ, Bool, true, false, refl, ℤ, pos, Option, Some, None, if◌then◌else◌}
-use Rattle.resolved_tree.specs.declared.operator.Attribute.{Attribute}
-use Rattle.resolved_tree.specs.declared.operator.Attribute.TheVariants as attribute
-use Rattle.resolved_tree.specs.Trees.{Tree, Attr, More}
-use Rattle.type_definitions.specs.declared.table.Predefined.{Predefined}
-use Rattle.type_definitions.specs.declared.table.Predefined.TheVariants as predefined
-use Rattle.type_definitions.specs.declared.table.Entry.{Entry}
-use Rattle.type_definitions.specs.declared.table.Entry.TheVariants as entry
-use Rattle.type_definitions.specs.declared.judgement.View.{View}
-use Rattle.type_definitions.specs.declared.judgement.View.TheVariants as view
-use Rattle.type_definitions.specs.declared.judgement.Next.{Next}
-use Rattle.type_definitions.specs.declared.judgement.Next.TheVariants.{Goes, Gives, Stops}
-use Rattle.type_definitions.specs.declared.judgement.Reading.{Reading}
-use Rattle.type_definitions.specs.declared.judgement.Reading.TheVariants as reading
-use Rattle.type_definitions.specs.Types.{base}
-use Rattle.type_definitions.specs.Entries.{entry_of}
-use Rattle.type_definitions.specs.Names.{Context, seen, step, is_end, ended, led_on, along, array_attribute, reading_if, is_call, is_imaged, scalar_attribute, ended_at, type_attribute, of_type, of_function, of_predefined, of_entry, reading_of}
+use Rattle.machine.specs.resolved_tree.declared.operator.Attribute.{Attribute}
+use Rattle.machine.specs.resolved_tree.declared.operator.Attribute.TheVariants as attribute
+use Rattle.machine.specs.resolved_tree.Trees.{Tree, Attr, More}
+use Rattle.machine.specs.type_definitions.declared.table.Predefined.{Predefined}
+use Rattle.machine.specs.type_definitions.declared.table.Predefined.TheVariants as predefined
+use Rattle.machine.specs.type_definitions.declared.table.Entry.{Entry}
+use Rattle.machine.specs.type_definitions.declared.table.Entry.TheVariants as entry
+use Rattle.machine.specs.type_definitions.declared.judgement.View.{View}
+use Rattle.machine.specs.type_definitions.declared.judgement.View.TheVariants as view
+use Rattle.machine.specs.type_definitions.declared.judgement.Next.{Next}
+use Rattle.machine.specs.type_definitions.declared.judgement.Next.TheVariants.{Goes, Gives, Stops}
+use Rattle.machine.specs.type_definitions.declared.judgement.Reading.{Reading}
+use Rattle.machine.specs.type_definitions.declared.judgement.Reading.TheVariants as reading
+use Rattle.machine.specs.type_definitions.Types.{base}
+use Rattle.machine.specs.type_definitions.Entries.{entry_of}
+use Rattle.machine.specs.type_definitions.Names.{Context, seen, step, is_end, ended, led_on, along, array_attribute, reading_if, is_call, is_imaged, scalar_attribute, ended_at, type_attribute, of_type, of_function, of_predefined, of_entry, reading_of}
 use Rattle.sound_files.specs.CalledSubs.Called.{is_subprogram_entry}
 
 -- What it calls is as asked.

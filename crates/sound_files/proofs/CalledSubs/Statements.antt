@@ -1,27 +1,27 @@
 -- Calls in typed code go to what is known as a subprogram.
 use Rattle.std.proofs.Common.{◌≡◌, ℕ, ◌+◌, true, List, [], ◌∷◌, ◌++◌, map, refl}
 use Rattle.std.specs.List.{AllByRecursion}
-use Rattle.spark_base.specs.declared.position.Pos.{Pos}
-use Rattle.resolved_tree.specs.Trees.{Tree, Named, Code, Bounds, Marked, Constrained, RangeOf, Objects, Numbers, SubBody, Package, PackageBody, Skip, Assign, Call, Exit, Return, If, Branch, Case, When, Loop, While, For, Block, More, code_items}
-use Rattle.type_definitions.specs.declared.table.Predefined.{Predefined}
-use Rattle.type_definitions.specs.declared.table.Predefined.TheVariants as predefined
-use Rattle.type_definitions.specs.declared.table.Entry.{Entry}
-use Rattle.type_definitions.specs.declared.table.Entry.TheVariants as entry
-use Rattle.type_definitions.specs.declared.judgement.View.{View}
-use Rattle.type_definitions.specs.declared.judgement.View.TheVariants as view
-use Rattle.type_definitions.specs.Types.{full}
-use Rattle.type_definitions.specs.Entries.{entry_of, integer, boolean, marked}
-use Rattle.type_definitions.specs.Names.{reading_of}
-use Rattle.type_definitions.specs.Expressions.{call_arguments}
-use Rattle.type_definitions.specs.Statements.{target_reading}
-use Rattle.type_definitions.specs.Gathered.{indicated, declared_number, in_subprogram, in_visible, in_hidden}
-use Rattle.type_definitions.specs.Declarations.{first_number}
-use Rattle.typed_tree.specs.Trees.{TypedTree, TypedCode, typed_code_list}
-use Rattle.typed_tree.specs.Trees as typed
-use Rattle.typed_tree.specs.Expressions.{Site, sub_number, typed_expression, typed_actuals, typed_first, typed_optional}
-use Rattle.typed_tree.specs.Statements.{scope_count, typed_object, type_read, predefined_call, call_of, typed_call, returned_type, bounds_seen, array_seen, range_of, typed_range, plain_statements, statements, typed_body}
-use Rattle.typed_tree.specs.Programs.{TypedSub, placed, subs_in, over_units}
-use Rattle.typed_tree.specs.Programs as programs
+use Rattle.machine.specs.spark_base.declared.position.Pos.{Pos}
+use Rattle.machine.specs.resolved_tree.Trees.{Tree, Named, Code, Bounds, Marked, Constrained, RangeOf, Objects, Numbers, SubBody, Package, PackageBody, Skip, Assign, Call, Exit, Return, If, Branch, Case, When, Loop, While, For, Block, More, code_items}
+use Rattle.machine.specs.type_definitions.declared.table.Predefined.{Predefined}
+use Rattle.machine.specs.type_definitions.declared.table.Predefined.TheVariants as predefined
+use Rattle.machine.specs.type_definitions.declared.table.Entry.{Entry}
+use Rattle.machine.specs.type_definitions.declared.table.Entry.TheVariants as entry
+use Rattle.machine.specs.type_definitions.declared.judgement.View.{View}
+use Rattle.machine.specs.type_definitions.declared.judgement.View.TheVariants as view
+use Rattle.machine.specs.type_definitions.Types.{full}
+use Rattle.machine.specs.type_definitions.Entries.{entry_of, integer, boolean, marked}
+use Rattle.machine.specs.type_definitions.Names.{reading_of}
+use Rattle.machine.specs.type_definitions.Expressions.{call_arguments}
+use Rattle.machine.specs.type_definitions.Statements.{target_reading}
+use Rattle.machine.specs.type_definitions.Gathered.{indicated, declared_number, in_subprogram, in_visible, in_hidden}
+use Rattle.machine.specs.type_definitions.Declarations.{first_number}
+use Rattle.machine.specs.typed_tree.Trees.{TypedTree, TypedCode, typed_code_list}
+use Rattle.machine.specs.typed_tree.Trees as typed
+use Rattle.machine.specs.typed_tree.Expressions.{Site, sub_number, typed_expression, typed_actuals, typed_first, typed_optional}
+use Rattle.machine.specs.typed_tree.Statements.{scope_count, typed_object, type_read, predefined_call, call_of, typed_call, returned_type, bounds_seen, array_seen, range_of, typed_range, plain_statements, statements, typed_body}
+use Rattle.machine.specs.typed_tree.Programs.{TypedSub, placed, subs_in, over_units}
+use Rattle.machine.specs.typed_tree.Programs as programs
 use Rattle.settled_types.proofs.OrderLaws.ScopeLaws.Lists.{all_both}
 use Rattle.sound_files.specs.CalledSubs.Called.{Calls, CodeCalls, is_subprogram_entry}
 use Rattle.sound_files.proofs.CalledSubs.Trees.{expression_fine, actuals_fine, first_fine, optional_fine}

@@ -1,24 +1,24 @@
 -- Calls in a typed expression go to what is known as a subprogram.
 use Rattle.std.proofs.Common.{◌≡◌, ℕ, ◌+◌, Bool, true, false, List, [], ◌∷◌, map, nat_eq, ℤ, negsuc, if◌then◌else◌}
-use Rattle.spark_base.specs.declared.position.Pos.{Pos}
-use Rattle.resolved_tree.specs.declared.operator.Operator.{Operator}
-use Rattle.resolved_tree.specs.declared.operator.Operator.TheVariants as operator
-use Rattle.resolved_tree.specs.Trees.{Tree, Number, Text, Named, Parens, Unary, Binary, Aggregate, Others, New, Selected, All, Applied, Argument, More, position}
-use Rattle.type_definitions.specs.declared.judgement.View.{View}
-use Rattle.type_definitions.specs.declared.judgement.View.TheVariants as view
-use Rattle.type_definitions.specs.declared.judgement.Reading.{Reading}
-use Rattle.type_definitions.specs.declared.judgement.Reading.TheVariants as reading
-use Rattle.type_definitions.specs.declared.judgement.Role.{Role}
-use Rattle.type_definitions.specs.declared.judgement.Role.TheVariants as role
-use Rattle.type_definitions.specs.Types.{fields}
-use Rattle.type_definitions.specs.Entries.{entry_of, integer, marked}
-use Rattle.type_definitions.specs.Names.{seen, step, through, reading_of}
-use Rattle.type_definitions.specs.Statics.{is_alone}
-use Rattle.type_definitions.specs.Expressions.{Given, given_names, all_by_position, role_type, operand_type, unary_type, element_type, is_null, next_type}
-use Rattle.type_definitions.specs.Gathered.{natural_of}
-use Rattle.typed_tree.specs.Trees.{TypedTree, typed_list}
-use Rattle.typed_tree.specs.Trees as typed
-use Rattle.typed_tree.specs.Expressions.{Site, sub_number, number, value_of_type, designating, component_number, element, object_type, typed_name, compared, operands, has_name, named_value, arranged, role_names, arguments_given, called_function, typed_expression, typed_steps, typed_step, typed_actuals, typed_imaged, typed_first, typed_values, typed_optional}
+use Rattle.machine.specs.spark_base.declared.position.Pos.{Pos}
+use Rattle.machine.specs.resolved_tree.declared.operator.Operator.{Operator}
+use Rattle.machine.specs.resolved_tree.declared.operator.Operator.TheVariants as operator
+use Rattle.machine.specs.resolved_tree.Trees.{Tree, Number, Text, Named, Parens, Unary, Binary, Aggregate, Others, New, Selected, All, Applied, Argument, More, position}
+use Rattle.machine.specs.type_definitions.declared.judgement.View.{View}
+use Rattle.machine.specs.type_definitions.declared.judgement.View.TheVariants as view
+use Rattle.machine.specs.type_definitions.declared.judgement.Reading.{Reading}
+use Rattle.machine.specs.type_definitions.declared.judgement.Reading.TheVariants as reading
+use Rattle.machine.specs.type_definitions.declared.judgement.Role.{Role}
+use Rattle.machine.specs.type_definitions.declared.judgement.Role.TheVariants as role
+use Rattle.machine.specs.type_definitions.Types.{fields}
+use Rattle.machine.specs.type_definitions.Entries.{entry_of, integer, marked}
+use Rattle.machine.specs.type_definitions.Names.{seen, step, through, reading_of}
+use Rattle.machine.specs.type_definitions.Statics.{is_alone}
+use Rattle.machine.specs.type_definitions.Expressions.{Given, given_names, all_by_position, role_type, operand_type, unary_type, element_type, is_null, next_type}
+use Rattle.machine.specs.type_definitions.Gathered.{natural_of}
+use Rattle.machine.specs.typed_tree.Trees.{TypedTree, typed_list}
+use Rattle.machine.specs.typed_tree.Trees as typed
+use Rattle.machine.specs.typed_tree.Expressions.{Site, sub_number, number, value_of_type, designating, component_number, element, object_type, typed_name, compared, operands, has_name, named_value, arranged, role_names, arguments_given, called_function, typed_expression, typed_steps, typed_step, typed_actuals, typed_imaged, typed_first, typed_values, typed_optional}
 use Rattle.sound_files.specs.CalledSubs.Called.{Calls, is_subprogram_entry}
 use Rattle.sound_files.proofs.CalledSubs.Readings.{Says, reading_says}
 

@@ -2,10 +2,10 @@
 use Rattle.std.proofs.Common.{◌≡◌, ◌⊎◌, inl, inr, ℕ, zero, suc, ◌+◌, true, false, List, [], ◌∷◌, ◌++◌, flat_map, length, refl, sym, ap, ◌∙◌, arith, subst, Some, None, true≢false}
 use Rattle.std.specs.Prelude.{slice_get, unwrap_or, is_some}
 use Rattle.std.proofs.lemmas.Bool.{false≢true}
-use Rattle.spark_base.specs.Lists.{Has}
-use Rattle.spark_base.proofs.Lists.{Has-append_cases, Has-append_left, Has-append_right}
+use Rattle.machine.specs.spark_base.Lists.{Has}
+use Rattle.soundness.proofs.Lists.{Has-append_cases, Has-append_left, Has-append_right}
 use Rattle.ada_tree.specs.declared.unit.SourceUnit.{SourceUnit}
-use Rattle.resolved_tree.specs.Trees.{Code, Front, SubDecl, SubBody, Package, PackageBody, If, Branch, Case, When, Loop, While, For, Block, More}
+use Rattle.machine.specs.resolved_tree.Trees.{Code, Front, SubDecl, SubBody, Package, PackageBody, If, Branch, Case, When, Loop, While, For, Block, More}
 use Rattle.name_events.specs.declared.event.Event.{Event}
 use Rattle.name_events.specs.declared.declaration.DeclarationForm.{DeclarationForm}
 use Rattle.name_events.specs.declared.declaration.DeclarationForm.TheVariants as form
@@ -20,7 +20,7 @@ use Rattle.name_events.specs.Denotes.{kind_of, known_of}
 use Rattle.name_events.specs.Faults.{first_fault}
 use Rattle.expression_lowering.specs.LoweredExpressions.{Numbers}
 use Rattle.tree_lowering.specs.Lowered.{lowered_files}
-use Rattle.typed_tree.specs.Programs.{bodies_in}
+use Rattle.machine.specs.typed_tree.Programs.{bodies_in}
 use Rattle.sound_files.specs.MeantFiles.Declarations.{Declarations, front_declarations, body_form, form_of_result, declarations, declared_by}
 use Rattle.sound_files.specs.MeantFiles.Followed.{AreFollowed}
 use Rattle.sound_files.specs.MeantFiles.Counted.{is_completing, Counts, kind_at}

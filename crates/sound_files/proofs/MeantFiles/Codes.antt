@@ -2,8 +2,8 @@
 -- objects have the types that are indicated.
 use Rattle.std.specs.Prelude.{is_some}
 use Rattle.std.proofs.Common.{◌≡◌, refl, ◌∙◌, inl, inr, ℕ, Bool, List, [], ◌∷◌, map, flat_map, Option, Some, None, sym, subst}
-use Rattle.spark_base.specs.Lists.{Has}
-use Rattle.spark_base.proofs.Lists.{Has-append_cases, Has-map_from}
+use Rattle.machine.specs.spark_base.Lists.{Has}
+use Rattle.soundness.proofs.Lists.{Has-append_cases, Has-map_from}
 use Rattle.ada_tree.specs.declared.declaration.Item.{Item}
 use Rattle.ada_tree.specs.declared.declaration.Item.TheVariants as item
 use Rattle.ada_tree.specs.declared.statement.Stmts.{Stmts, Row_of-Stmt, end_of-Stmt, more_of-Stmt}
@@ -26,12 +26,12 @@ use Rattle.ada_tree.specs.declared.expression.Expr.{Expr}
 use Rattle.ada_tree.specs.declared.expression.Name.{Name}
 use Rattle.ada_tree.specs.declared.range.Range.{Range}
 use Rattle.ada_tree.specs.declared.range.Range.TheVariants as range
-use Rattle.resolved_tree.specs.Trees.{Tree, Code, More, code_list}
-use Rattle.resolved_tree.specs.Trees as t
-use Rattle.type_definitions.specs.Gathered.{declared_number, in_subprogram, in_visible, in_hidden}
-use Rattle.typed_tree.specs.Expressions.{Site}
-use Rattle.typed_tree.specs.Programs.{placed}
-use Rattle.flow_paths.specs.Objects.{Typing}
+use Rattle.machine.specs.resolved_tree.Trees.{Tree, Code, More, code_list}
+use Rattle.machine.specs.resolved_tree.Trees as t
+use Rattle.machine.specs.type_definitions.Gathered.{declared_number, in_subprogram, in_visible, in_hidden}
+use Rattle.machine.specs.typed_tree.Expressions.{Site}
+use Rattle.machine.specs.typed_tree.Programs.{placed}
+use Rattle.machine.specs.flow_paths.Objects.{Typing}
 use Rattle.expression_lowering.specs.LoweredExpressions.{Numbers, lowered_expr, lowered_name, lowered_range}
 use Rattle.tree_lowering.specs.Lowered as tree
 use Rattle.tree_lowering.specs.Lowered.{declared_all, lowered_indication, lowered_subtype, lowered_type, lowered_declaration, item_before, before_all, lowered_items, lowered_simple, lowered_stmts, lowered_stmt_box, stmts_row, lowered_stmt, lowered_stmts_box, elsifs_row, lowered_elsif, lowered_when_box, whens_row, lowered_when, lowered_subspec, lowered_subprogram, decl_before, part_before, lowered_decls, lowered_private, lowered_package, lowered_package_body, lowered_unit, lowered_files}

@@ -1,9 +1,9 @@
 -- What names of code denote is as asked, where objects in scope and objects that the code declares are.
 use Rattle.std.proofs.Common.{ℕ, List, [], ◌∷◌, ◌++◌, flat_map, inl, inr, refl, subst}
-use Rattle.spark_base.specs.Lists.{Has}
-use Rattle.spark_base.proofs.Lists.{Has-append_cases, Has-append_left, Has-append_right}
-use Rattle.resolved_tree.specs.Trees.{Tree, Named, Parens, Unary, Binary, Aggregate, Others, New, Applied, Argument, NoMore, More, Code, Bounds, Constrained, Objects, Numbers, SubBody, Package, PackageBody, Assign, Call, Exit, Return, If, Branch, Case, When, Loop, While, For, Block}
-use Rattle.type_definitions.specs.Gathered.{declared_number}
+use Rattle.machine.specs.spark_base.Lists.{Has}
+use Rattle.soundness.proofs.Lists.{Has-append_cases, Has-append_left, Has-append_right}
+use Rattle.machine.specs.resolved_tree.Trees.{Tree, Named, Parens, Unary, Binary, Aggregate, Others, New, Applied, Argument, NoMore, More, Code, Bounds, Constrained, Objects, Numbers, SubBody, Package, PackageBody, Assign, Call, Exit, Return, If, Branch, Case, When, Loop, While, For, Block}
+use Rattle.machine.specs.type_definitions.Gathered.{declared_number}
 use Rattle.sound_files.specs.SeenFiles.Uses.{Uses}
 use Rattle.sound_files.specs.SeenFiles.Fits.{all_numbers, front_numbers, scope_after, unit_scope, IsKept, AreObjects, RangeFits, Fits, AreFitting, IsFitting, UnitFits, AllFit}
 use Rattle.sound_files.specs.MeantFiles.Denoted.{RangeDenoted, AreDenoted}

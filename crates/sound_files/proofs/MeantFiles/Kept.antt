@@ -1,24 +1,24 @@
 -- The table after a turn says of anonymous access types what they are where they are declared.
 use Rattle.std.proofs.Common.{◌≡◌, ◌⊎◌, inl, inr, ℕ, suc, ◌<◌, ◌≤◌, Bool, true, false, List, [], ◌∷◌, ◌++◌, flat_map, set, length, refl, sym, ap, ◌∙◌, arith, subst, Some, None, if◌then◌else◌}
 use Rattle.std.specs.Prelude.{slice_get}
-use Rattle.spark_base.specs.Lists.{Has}
-use Rattle.spark_base.proofs.Lists.{Has-append_cases}
-use Rattle.resolved_tree.specs.Trees.{More, Code, Anonymous, Objects, Formals, Front, SubDecl, SubBody, Package, PackageBody, If, Branch, Case, When, Loop, While, For, Block}
+use Rattle.machine.specs.spark_base.Lists.{Has}
+use Rattle.soundness.proofs.Lists.{Has-append_cases}
+use Rattle.machine.specs.resolved_tree.Trees.{More, Code, Anonymous, Objects, Formals, Front, SubDecl, SubBody, Package, PackageBody, If, Branch, Case, When, Loop, While, For, Block}
 use Rattle.name_events.specs.declared.declaration.DeclarationForm.{DeclarationForm}
 use Rattle.name_events.specs.declared.declaration.DeclarationForm.TheVariants as form
 use Rattle.name_events.specs.declared.declaration.DeclKind.{DeclKind}
 use Rattle.name_events.specs.Denotes.{kind_of}
-use Rattle.type_definitions.specs.declared.table.InitialValue.{InitialValue}
-use Rattle.type_definitions.specs.declared.table.Info.{Info}
-use Rattle.type_definitions.specs.declared.table.Shape.TheVariants as shape
-use Rattle.type_definitions.specs.declared.table.Kind.TheVariants as kind
-use Rattle.type_definitions.specs.declared.table.Entry.{Entry}
-use Rattle.type_definitions.specs.declared.table.Entry.TheVariants as entry
-use Rattle.type_definitions.specs.Types.{Table}
-use Rattle.type_definitions.specs.Entries.{entry_of, marked}
-use Rattle.type_definitions.specs.Names.{Context}
-use Rattle.type_definitions.specs.Gathered.{gather, each, with_entry, with_indication, own_info, with_object, constant_value, with_formal, with_formal_group, with_formals, with_result, with_front, with_body_front, is_subprogram, front_number, plain_object, parameter_type, in_subprogram, in_visible, in_hidden, declared_number}
-use Rattle.type_definitions.specs.Whole.{gather_units}
+use Rattle.machine.specs.type_definitions.declared.table.InitialValue.{InitialValue}
+use Rattle.machine.specs.type_definitions.declared.table.Info.{Info}
+use Rattle.machine.specs.type_definitions.declared.table.Shape.TheVariants as shape
+use Rattle.machine.specs.type_definitions.declared.table.Kind.TheVariants as kind
+use Rattle.machine.specs.type_definitions.declared.table.Entry.{Entry}
+use Rattle.machine.specs.type_definitions.declared.table.Entry.TheVariants as entry
+use Rattle.machine.specs.type_definitions.Types.{Table}
+use Rattle.machine.specs.type_definitions.Entries.{entry_of, marked}
+use Rattle.machine.specs.type_definitions.Names.{Context}
+use Rattle.machine.specs.type_definitions.Gathered.{gather, each, with_entry, with_indication, own_info, with_object, constant_value, with_formal, with_formal_group, with_formals, with_result, with_front, with_body_front, is_subprogram, front_number, plain_object, parameter_type, in_subprogram, in_visible, in_hidden, declared_number}
+use Rattle.machine.specs.type_definitions.Whole.{gather_units}
 use Rattle.settled_types.specs.SteadyTypes.Alike.{outlined}
 use Rattle.settled_types.specs.SteadyTypes.Kept.{IsKeptAt, AreKeptAt, AreKeptNames, IsKeptGroup, AreKeptGroups, IsKeptResult, IsKeptFront, AreKeptFormals, IsKeptBodyAs, IsKeptBody, IsKept, AreKept}
 use Rattle.sound_files.specs.MeantFiles.Declarations.{Declarations, each_as, group_declarations, formal_declarations, front_declarations, body_form, declarations}

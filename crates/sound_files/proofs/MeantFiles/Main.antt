@@ -2,9 +2,9 @@
 use Rattle.std.proofs.Common.{◌≡◌, ℕ, zero, suc, ◌-◌, ◌<◌, ◌≤◌, false, List, [], ◌∷◌, ◌++◌, flat_map, length, get_or, replicate, Some, refl, sym, ap, arith, subst, None, length-append}
 use Rattle.std.specs.Prelude.{slice_get}
 use Rattle.std.proofs.lemmas.List.{length-map, length-replicate}
-use Rattle.spark_base.specs.Lists.{Has}
+use Rattle.machine.specs.spark_base.Lists.{Has}
 use Rattle.ada_tree.specs.declared.unit.SourceUnit.{SourceUnit}
-use Rattle.resolved_tree.specs.Trees.{Code, Program}
+use Rattle.machine.specs.resolved_tree.Trees.{Code, Program}
 use Rattle.name_events.specs.declared.declaration.DeclKind.{DeclKind}
 use Rattle.name_events.specs.Outline.{source_events}
 use Rattle.name_events.specs.KnownBehind.{known_at_first}
@@ -14,14 +14,14 @@ use Rattle.name_events.specs.Identified.{identified}
 use Rattle.name_events.specs.Faults.{name_fault}
 use Rattle.expression_lowering.specs.LoweredExpressions.{Numbers}
 use Rattle.typing_steps.specs.Programs.{program_of}
-use Rattle.type_definitions.specs.declared.table.Entry.{Entry}
-use Rattle.type_definitions.specs.declared.table.Entry.TheVariants as entry
-use Rattle.type_definitions.specs.Types.{Table, no_type}
-use Rattle.type_definitions.specs.Entries.{entry_of}
-use Rattle.type_definitions.specs.Expressions.{profile_of}
-use Rattle.type_definitions.specs.Names.{Context}
-use Rattle.type_definitions.specs.Whole.{predefined_types, predefined_entries, at_first, outside, known_from, known_of}
-use Rattle.typed_tree.specs.Programs.{site_of}
+use Rattle.machine.specs.type_definitions.declared.table.Entry.{Entry}
+use Rattle.machine.specs.type_definitions.declared.table.Entry.TheVariants as entry
+use Rattle.machine.specs.type_definitions.Types.{Table, no_type}
+use Rattle.machine.specs.type_definitions.Entries.{entry_of}
+use Rattle.machine.specs.type_definitions.Expressions.{profile_of}
+use Rattle.machine.specs.type_definitions.Names.{Context}
+use Rattle.machine.specs.type_definitions.Whole.{predefined_types, predefined_entries, at_first, outside, known_from, known_of}
+use Rattle.machine.specs.typed_tree.Programs.{site_of}
 use Rattle.settled_types.specs.FilePositions.Order.{Ascends, event_positions}
 use Rattle.soundness.specs.TypedLaws.Fine.{Denotes}
 use Rattle.soundness.specs.TypedLaws.TypedPoints.Meant.{typing_meant, AreMeantUnits}

@@ -1,12 +1,12 @@
 -- The numbers of the objects that code declares, and those of the objects of its program.
 use Rattle.std.proofs.Common.{◌≡◌, ℕ, ◌+◌, List, [], ◌∷◌, ◌++◌, map, flat_map, refl, ap, ◌∙◌, append_assoc}
-use Rattle.resolved_tree.specs.Trees.{Code, code_items, Objects, Numbers, Formals as Group, Front, SubBody, Package as PackageCode, PackageBody as BodyCode, If, Branch, Case, When as Alternative, Loop, While, For, Block, More}
-use Rattle.place_names.specs.declared.act.Mode.{Mode}
-use Rattle.place_names.specs.declared.act.Mode.TheVariants as mode
-use Rattle.type_definitions.specs.Gathered.{declared_number, declared_text}
-use Rattle.typed_tree.specs.Statements.{scope_count}
+use Rattle.machine.specs.resolved_tree.Trees.{Code, code_items, Objects, Numbers, Formals as Group, Front, SubBody, Package as PackageCode, PackageBody as BodyCode, If, Branch, Case, When as Alternative, Loop, While, For, Block, More}
+use Rattle.machine.specs.place_names.declared.act.Mode.{Mode}
+use Rattle.machine.specs.place_names.declared.act.Mode.TheVariants as mode
+use Rattle.machine.specs.type_definitions.Gathered.{declared_number, declared_text}
+use Rattle.machine.specs.typed_tree.Statements.{scope_count}
 use Rattle.sound_files.specs.SeenFiles.Fits.{all_numbers, group_numbers, front_numbers}
-use Rattle.typed_tree.specs.Programs.{DeclaredObject, Home, object_of, formals_of, front_formals, local, in_package, package_text, objects_in, over_units}
+use Rattle.machine.specs.typed_tree.Programs.{DeclaredObject, Home, object_of, formals_of, front_formals, local, in_package, package_text, objects_in, over_units}
 
 -- ---- the objects of code
 

@@ -31,12 +31,12 @@ use Rattle.ada_tree.specs.declared.expression.Name.{Name, Row_of-Suffix, end_of-
 use Rattle.ada_tree.specs.declared.expression.Name.TheVariants as name
 use Rattle.ada_tree.specs.declared.expression.Suffix.{Suffix}
 use Rattle.ada_tree.specs.declared.expression.Suffix.TheVariants as suffix
-use Rattle.spark_base.specs.declared.position.Pos.{Pos}
-use Rattle.resolved_tree.specs.declared.operator.Operator.{Operator}
-use Rattle.resolved_tree.specs.Trees.{Tree, Bounds, Constrained, Code, list_of}
-use Rattle.resolved_tree.specs.Trees as t
-use Rattle.typed_tree.specs.Expressions.{Site}
-use Rattle.flow_paths.specs.Objects.{Typing}
+use Rattle.machine.specs.spark_base.declared.position.Pos.{Pos}
+use Rattle.machine.specs.resolved_tree.declared.operator.Operator.{Operator}
+use Rattle.machine.specs.resolved_tree.Trees.{Tree, Bounds, Constrained, Code, list_of}
+use Rattle.machine.specs.resolved_tree.Trees as t
+use Rattle.machine.specs.typed_tree.Expressions.{Site}
+use Rattle.machine.specs.flow_paths.Objects.{Typing}
 use Rattle.expression_lowering.specs.LoweredExpressions.{Numbers, chained, lowered_name, lowered_suffixes, lowered_suffix, box_before, args_row, next_arg_before, arg_before, lowered_expr_box, lowered_expr, operands_row, lowered_operand, short_operands_row, lowered_short_operand, lowered_rel_box, lowered_rel, lowered_sum_box, lowered_sum, terms_row, lowered_next_term, lowered_term, factors_row, lowered_next_factor, lowered_factor, lowered_primary, lowered_name_box, lowered_aggregate_box, lowered_aggregate, selected_numbers}
 use Rattle.soundness.specs.TypedLaws.Fine.{Denotes, IsMeant, AreSuffixes, IsSuffix, AreArguments}
 

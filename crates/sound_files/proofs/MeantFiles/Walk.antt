@@ -3,9 +3,9 @@
 use Rattle.std.proofs.Common.{◌≡◌, inl, inr, ℕ, suc, ◌<◌, ◌≤◌, false, List, [], ◌∷◌, ◌++◌, map, flat_map, length, refl, sym, ap, ◌∙◌, arith, Option, Some, None, subst, append_assoc, length-append, unwrap_or, true≢false, true}
 use Rattle.std.proofs.lemmas.Bool.{false≢true}
 use Rattle.std.specs.Prelude.{is_some}
-use Rattle.spark_base.specs.Lists.{Has}
-use Rattle.spark_base.proofs.Lists.{Has-append_cases, Has-append_left, Has-append_right}
-use Rattle.spark_base.specs.declared.position.Pos.{Pos}
+use Rattle.machine.specs.spark_base.Lists.{Has}
+use Rattle.soundness.proofs.Lists.{Has-append_cases, Has-append_left, Has-append_right}
+use Rattle.machine.specs.spark_base.declared.position.Pos.{Pos}
 use Rattle.ada_tree.specs.declared.identifier.Identifier.{Identifier}
 use Rattle.ada_tree.specs.declared.identifier.NextIdentifier.{NextIdentifier}
 use Rattle.ada_tree.specs.declared.identifier.NextIdentifier.TheVariants as next_id
@@ -62,14 +62,14 @@ use Rattle.name_events.specs.Identified.{number_at, completed_or_next}
 use Rattle.name_events.specs.ExpressionOutline.{declares, declares_all, next_name, next_dotted_name, part_name, folded, folded_identifier, mention, mentions, each_of, name_events, arg_events, next_arg_events, expr_events, range_events, choice_events, next_choice_events}
 use Rattle.name_events.specs.Outline.{indication_events, component_events, use_events, clause_of, subtype_events, type_events, item_events, simple_events, parameter_events, stmts_events, stmt_box_events, stmt_list_events, stmt_events, stmts_box_events, elsifs_events, elsif_events, when_box_events, whens_events, when_events, formal_events, next_formal_events, formals_events, subspec_events, subspec_name, closing_events, subprogram_events, decl_events, body_part_events, private_events, package_events, package_body_events, has_with, with_events, context_events, unit_front, unit_events, source_events}
 use Rattle.name_events.specs.Outline as outline
-use Rattle.resolved_tree.specs.Trees.{Code, code_list}
+use Rattle.machine.specs.resolved_tree.Trees.{Code, code_list}
 use Rattle.expression_lowering.specs.LoweredExpressions.{Numbers, number_of, last_part, mark_of, before_others, last_of, lowered_range}
 use Rattle.sound_files.specs.SeenFiles.Uses.{numbers_along, name_number, AreAllowed}
 use Rattle.sound_files.proofs.SeenFiles.Expressions.{both_so, all_mention, expr_speaks}
 use Rattle.name_events.specs.Laws.{is_mention}
 use Rattle.tree_lowering.specs.Lowered.{declared_next, declared_all, lowered_indication, lowered_subtype, lowered_type, lowered_declaration, item_before, before_all, lowered_items, lowered_simple, lowered_stmts, lowered_stmt_box, stmts_row, lowered_stmt, lowered_stmts_box, elsifs_row, lowered_elsif, lowered_when_box, whens_row, lowered_when, lowered_formal, lowered_next_formal, lowered_formals, lowered_subspec, lowered_subprogram, decl_before, part_before, lowered_decls, lowered_private, lowered_package, lowered_package_body, lowered_unit, lowered_files}
-use Rattle.type_definitions.specs.Gathered.{front_number}
-use Rattle.typed_tree.specs.Programs.{bodies_in}
+use Rattle.machine.specs.type_definitions.Gathered.{front_number}
+use Rattle.machine.specs.typed_tree.Programs.{bodies_in}
 use Rattle.sound_files.specs.MeantFiles.Declarations.{Declarations, each_as, group_declarations, formal_declarations, front_declarations, body_form, declarations, declared_by, HasBodies, last_from, IsLow, IsLowIndication, IsLowRange, IsLowGroup, AreLowGroups, IsLowFront, AreLow, AllLow}
 use Rattle.sound_files.specs.MeantFiles.Followed.{IsFollowed, AreFollowed}
 use Rattle.settled_types.proofs.OrderlyFiles.Steps.{completes_nothing}

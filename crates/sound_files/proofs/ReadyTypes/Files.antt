@@ -3,10 +3,10 @@ use Rattle.std.proofs.Common.{◌≡◌, List, IsTrue, length, None}
 use Rattle.ada_tree.specs.declared.unit.SourceUnit.{SourceUnit}
 use Rattle.name_events.specs.Denotes.{decl_infos}
 use Rattle.name_events.specs.Identified.{identified}
-use Rattle.type_definitions.specs.Whole.{type_fault, known_of}
+use Rattle.machine.specs.type_definitions.Whole.{type_fault, known_of}
 use Rattle.typing_steps.specs.Programs.{program_of}
-use Rattle.typed_tree.specs.Programs.{TypedProgram}
-use Rattle.flow_paths.specs.Laid.{flow_program}
+use Rattle.machine.specs.typed_tree.Programs.{TypedProgram}
+use Rattle.machine.specs.flow_paths.Laid.{flow_program}
 use Rattle.type_sizes.specs.Formed.{all_formed}
 use Rattle.type_rules.proofs.Formed.{files_formed}
 use Rattle.settled_types.specs.Orderly.{at_start, IsOrderly}

@@ -1,9 +1,9 @@
 -- The types of a program without a fault of typing are settled, and own by their definitions.
 use Rattle.std.proofs.Common.{◌≡◌, ℕ, sym, subst, IsTrue, None}
-use Rattle.resolved_tree.specs.Trees.{Program}
-use Rattle.type_definitions.specs.Whole.{type_fault, known_of}
-use Rattle.typed_tree.specs.Programs.{TypedProgram}
-use Rattle.flow_paths.specs.Laid.{flow_program}
+use Rattle.machine.specs.resolved_tree.Trees.{Program}
+use Rattle.machine.specs.type_definitions.Whole.{type_fault, known_of}
+use Rattle.machine.specs.typed_tree.Programs.{TypedProgram}
+use Rattle.machine.specs.flow_paths.Laid.{flow_program}
 use Rattle.type_sizes.specs.Formed.{all_formed}
 use Rattle.settled_types.specs.Wholes.{AreWhole}
 use Rattle.settled_types.specs.Orderly.{IsOrderly}

@@ -1,7 +1,7 @@
 -- What expressions mention in the text is what their trees name.
 use Rattle.std.proofs.Common.{◌≡◌, ℕ, suc, Bool, true, false, ◌&&◌, List, [], ◌∷◌, ◌++◌, drop, length, refl, sym, ap, subst, true≢false, zero}
 use Rattle.std.specs.List.{flat_map}
-use Rattle.spark_base.specs.declared.position.Pos.{Pos}
+use Rattle.machine.specs.spark_base.declared.position.Pos.{Pos}
 use Rattle.ada_tree.specs.declared.expression.Aggregate.{Aggregate, Row_of-Arg, end_of-Arg, more_of-Arg, Row_of-NextArg, end_of-NextArg, more_of-NextArg, Row_of-Expr, end_of-Expr, more_of-Expr}
 use Rattle.ada_tree.specs.declared.expression.Aggregate.TheVariants as aggregate
 use Rattle.ada_tree.specs.declared.expression.Arg.{Arg}
@@ -44,10 +44,10 @@ use Rattle.name_events.specs.Laws.{is_mention}
 use Rattle.name_events.specs.Identified.{number_at}
 use Rattle.name_events.specs.ExpressionOutline.{selector, selectors, name_events, suffixes_events, suffix_events, arg_box_events, next_args_events, next_arg_events, arg_events, expr_box_events, expr_events, operands_events, operand_events, short_operands_events, short_operand_events, rel_box_events, rel_events, sum_box_events, sum_events, next_terms_events, next_term_events, term_events, next_factors_events, next_factor_events, factor_events, primary_events, name_box_events, aggregate_box_events, aggregate_events, range_events, choice_events, next_choice_events}
 use Rattle.name_events.specs.ExpressionOutline as outline
-use Rattle.resolved_tree.specs.declared.operator.Operator.{Operator}
-use Rattle.resolved_tree.specs.declared.operator.Operator.TheVariants as op
-use Rattle.resolved_tree.specs.Trees.{Tree, list_of}
-use Rattle.resolved_tree.specs.Trees as t
+use Rattle.machine.specs.resolved_tree.declared.operator.Operator.{Operator}
+use Rattle.machine.specs.resolved_tree.declared.operator.Operator.TheVariants as op
+use Rattle.machine.specs.resolved_tree.Trees.{Tree, list_of}
+use Rattle.machine.specs.resolved_tree.Trees as t
 use Rattle.expression_lowering.specs.LoweredExpressions.{Numbers, number_of, before_others, last_of, sign_operator, chained, selected_number, selected_numbers, lowered_name, lowered_suffixes, lowered_suffix, box_before, args_row, next_arg_before, arg_before, lowered_expr_box, lowered_expr, operands_row, lowered_operand, short_operands_row, lowered_short_operand, lowered_rel_box, lowered_rel, lowered_sum_box, lowered_sum, terms_row, lowered_next_term, lowered_term, factors_row, lowered_next_factor, lowered_factor, lowered_primary, lowered_name_box, lowered_aggregate_box, lowered_aggregate, lowered_range}
 use Rattle.sound_files.specs.SeenFiles.Uses.{Uses, numbers_along, AreAllowed}
 use Rattle.sound_files.specs.SeenFiles.Fits.{RangeFits, IsKept}

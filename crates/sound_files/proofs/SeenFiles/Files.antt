@@ -3,8 +3,8 @@
 use Rattle.std.proofs.Common.{◌≡◌, ◌⊎◌, inl, inr, ℕ, ◌+◌, ◌<◌, Bool, true, false, not, ◌&&◌, List, [], ◌∷◌, ◌++◌, map, filter, drop, nat_eq, refl, sym, ap, ◌∙◌, subst, arith, append_assoc, Option, Some, None, true≢false, if◌then◌else◌}
 use Rattle.std.specs.List.{flat_map}
 use Rattle.std.specs.Prelude.{nat_le, option_map, unwrap_or, is_some}
-use Rattle.spark_base.specs.Lists.{Has}
-use Rattle.spark_base.proofs.Lists.{Has-append_cases, Has-filter}
+use Rattle.machine.specs.spark_base.Lists.{Has}
+use Rattle.soundness.proofs.Lists.{Has-append_cases, Has-filter}
 use Rattle.ada_tree.specs.declared.identifier.Identifier.{Identifier}
 use Rattle.ada_tree.specs.declared.identifier.Dotted.{Dotted}
 use Rattle.ada_tree.specs.declared.unit.Context.{Context}
@@ -31,7 +31,7 @@ use Rattle.name_events.specs.Predefined.{predefined_count}
 use Rattle.name_events.specs.Known.{Known, here, part_here, source_package}
 use Rattle.name_events.specs.Completions.{completed_by, completes_form, may_complete, if_completes, awaiting}
 use Rattle.name_events.specs.KnownBehind.{known_behind, known_behind_all, behind_declaration, new_entry, end_in, open_region, open_body, turned_private, begin_unit, package_named}
-use Rattle.resolved_tree.specs.Trees.{Code}
+use Rattle.machine.specs.resolved_tree.Trees.{Code}
 use Rattle.expression_lowering.specs.LoweredExpressions.{Numbers}
 use Rattle.tree_lowering.specs.Lowered.{before_all, lowered_subprogram, part_before, lowered_decls, lowered_private, lowered_package, lowered_package_body, lowered_unit, lowered_files}
 use Rattle.sound_files.specs.SeenFiles.Fits.{scope_after, unit_scope, Fits, UnitFits, AllFit}

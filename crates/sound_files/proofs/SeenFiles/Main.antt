@@ -1,15 +1,15 @@
 -- What names denote in accepted files is in scope where they stand, or an object of a package.
 use Rattle.std.proofs.Common.{◌≡◌, ℕ, true, List, [], map, None}
-use Rattle.spark_base.specs.Lists.{Has}
+use Rattle.machine.specs.spark_base.Lists.{Has}
 use Rattle.ada_tree.specs.declared.unit.SourceUnit.{SourceUnit}
 use Rattle.name_events.specs.Outline.{source_events}
 use Rattle.name_events.specs.Denotes.{known_of as names_known}
 use Rattle.name_events.specs.Faults.{name_fault}
-use Rattle.resolved_tree.specs.Trees.{Program}
+use Rattle.machine.specs.resolved_tree.Trees.{Program}
 use Rattle.typing_steps.specs.Programs.{program_of}
-use Rattle.type_definitions.specs.Whole.{known_of}
-use Rattle.typed_tree.specs.Programs.{TypedSub, DeclaredObject, program_objects, site_of, elaboration}
-use Rattle.flow_paths.specs.Objects.{is_package_object}
+use Rattle.machine.specs.type_definitions.Whole.{known_of}
+use Rattle.machine.specs.typed_tree.Programs.{TypedSub, DeclaredObject, program_objects, site_of, elaboration}
+use Rattle.machine.specs.flow_paths.Objects.{is_package_object}
 use Rattle.settled_types.specs.FilePositions.Order.{Ascends, event_positions}
 use Rattle.settled_types.specs.OrderLaws.ScopeLaws.Code.{Once, body_seen}
 use Rattle.settled_types.specs.OrderLaws.Orderly.{typing_in, bodies_of}

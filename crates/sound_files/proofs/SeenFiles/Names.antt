@@ -1,33 +1,33 @@
 -- What the names in a typed expression are rooted in is in scope, or as asked, if so is what its names denote.
 use Rattle.std.proofs.Common.{◌≡◌, ℕ, ◌+◌, Bool, true, false, ◌||◌, List, [], ◌∷◌, ◌++◌, map, refl, sym, ◌∙◌, nat_eq, Option, Some, None, true≢false, ℤ, pos, negsuc, if◌then◌else◌}
-use Rattle.spark_base.specs.declared.position.Pos.{Pos}
-use Rattle.resolved_tree.specs.declared.operator.Operator.{Operator}
-use Rattle.resolved_tree.specs.declared.operator.Operator.TheVariants as operator
-use Rattle.resolved_tree.specs.declared.operator.Attribute.{Attribute}
-use Rattle.resolved_tree.specs.declared.operator.Attribute.TheVariants as attribute
-use Rattle.resolved_tree.specs.Trees.{Tree, Number, Text, Named, Parens, Unary, Binary, Aggregate, Others, New, Selected, All, Applied, Attr, Argument, More, position}
-use Rattle.type_definitions.specs.declared.table.Predefined.{Predefined}
-use Rattle.type_definitions.specs.declared.table.Predefined.TheVariants as predefined
-use Rattle.type_definitions.specs.declared.table.Entry.{Entry}
-use Rattle.type_definitions.specs.declared.table.Entry.TheVariants as entry
-use Rattle.type_definitions.specs.declared.judgement.View.{View}
-use Rattle.type_definitions.specs.declared.judgement.View.TheVariants as view
-use Rattle.type_definitions.specs.declared.judgement.Next.{Next}
-use Rattle.type_definitions.specs.declared.judgement.Next.TheVariants.{Gives}
-use Rattle.type_definitions.specs.declared.judgement.Reading.{Reading}
-use Rattle.type_definitions.specs.declared.judgement.Reading.TheVariants as reading
-use Rattle.type_definitions.specs.declared.judgement.Role.{Role}
-use Rattle.type_definitions.specs.declared.judgement.Role.TheVariants as role
-use Rattle.type_definitions.specs.Types.{base, fields}
-use Rattle.type_definitions.specs.Entries.{entry_of, integer, marked}
-use Rattle.type_definitions.specs.Names.{Context, seen, step, through, is_end, ended, array_attribute, reading_if, is_call, is_imaged, scalar_attribute, ended_at, type_attribute, of_type, of_function, of_predefined, of_entry, reading_of}
-use Rattle.type_definitions.specs.Statics.{is_alone}
-use Rattle.type_definitions.specs.Expressions.{Given, given_names, all_by_position, role_type, operand_type, unary_type, element_type, is_null, next_type}
-use Rattle.type_definitions.specs.Gathered.{natural_of}
-use Rattle.typed_tree.specs.Trees.{TypedTree, typed_list}
-use Rattle.typed_tree.specs.Trees as typed
-use Rattle.typed_tree.specs.Expressions.{Site, object_number, number, value_of_type, designating, component_number, element, object_type, typed_name, compared, operands, has_name, named_value, arranged, role_names, arguments_given, called_function, typed_expression, typed_steps, typed_step, typed_actuals, typed_imaged, typed_first, typed_values, typed_optional}
-use Rattle.flow_paths.specs.Scopes.{is_within}
+use Rattle.machine.specs.spark_base.declared.position.Pos.{Pos}
+use Rattle.machine.specs.resolved_tree.declared.operator.Operator.{Operator}
+use Rattle.machine.specs.resolved_tree.declared.operator.Operator.TheVariants as operator
+use Rattle.machine.specs.resolved_tree.declared.operator.Attribute.{Attribute}
+use Rattle.machine.specs.resolved_tree.declared.operator.Attribute.TheVariants as attribute
+use Rattle.machine.specs.resolved_tree.Trees.{Tree, Number, Text, Named, Parens, Unary, Binary, Aggregate, Others, New, Selected, All, Applied, Attr, Argument, More, position}
+use Rattle.machine.specs.type_definitions.declared.table.Predefined.{Predefined}
+use Rattle.machine.specs.type_definitions.declared.table.Predefined.TheVariants as predefined
+use Rattle.machine.specs.type_definitions.declared.table.Entry.{Entry}
+use Rattle.machine.specs.type_definitions.declared.table.Entry.TheVariants as entry
+use Rattle.machine.specs.type_definitions.declared.judgement.View.{View}
+use Rattle.machine.specs.type_definitions.declared.judgement.View.TheVariants as view
+use Rattle.machine.specs.type_definitions.declared.judgement.Next.{Next}
+use Rattle.machine.specs.type_definitions.declared.judgement.Next.TheVariants.{Gives}
+use Rattle.machine.specs.type_definitions.declared.judgement.Reading.{Reading}
+use Rattle.machine.specs.type_definitions.declared.judgement.Reading.TheVariants as reading
+use Rattle.machine.specs.type_definitions.declared.judgement.Role.{Role}
+use Rattle.machine.specs.type_definitions.declared.judgement.Role.TheVariants as role
+use Rattle.machine.specs.type_definitions.Types.{base, fields}
+use Rattle.machine.specs.type_definitions.Entries.{entry_of, integer, marked}
+use Rattle.machine.specs.type_definitions.Names.{Context, seen, step, through, is_end, ended, array_attribute, reading_if, is_call, is_imaged, scalar_attribute, ended_at, type_attribute, of_type, of_function, of_predefined, of_entry, reading_of}
+use Rattle.machine.specs.type_definitions.Statics.{is_alone}
+use Rattle.machine.specs.type_definitions.Expressions.{Given, given_names, all_by_position, role_type, operand_type, unary_type, element_type, is_null, next_type}
+use Rattle.machine.specs.type_definitions.Gathered.{natural_of}
+use Rattle.machine.specs.typed_tree.Trees.{TypedTree, typed_list}
+use Rattle.machine.specs.typed_tree.Trees as typed
+use Rattle.machine.specs.typed_tree.Expressions.{Site, object_number, number, value_of_type, designating, component_number, element, object_type, typed_name, compared, operands, has_name, named_value, arranged, role_names, arguments_given, called_function, typed_expression, typed_steps, typed_step, typed_actuals, typed_imaged, typed_first, typed_values, typed_optional}
+use Rattle.machine.specs.flow_paths.Scopes.{is_within}
 use Rattle.settled_types.specs.OrderLaws.ScopeLaws.Code.{roots, are_seen}
 use Rattle.settled_types.proofs.OrderLaws.ScopeLaws.Lists.{both_true}
 use Rattle.settled_types.proofs.OrderLaws.ScopeLaws.Seen.{seen_both}

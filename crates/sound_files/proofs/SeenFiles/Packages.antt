@@ -1,23 +1,23 @@
 -- Package objects are known as such, where each declaration of an object has a number of its own.
 use Rattle.std.proofs.Common.{◌≡◌, ◌⊎◌, inl, inr, ℕ, suc, ◌+◌, Bool, true, false, not, ◌&&◌, List, [], ◌∷◌, ◌++◌, map, get_or, cond, nat_eq, refl, sym, ap, ◌∙◌, subst, arith, Some, None, is_some, eqb-true, eq-eqb, true≢false}
 use Rattle.std.specs.List.{position_or_len}
-use Rattle.spark_base.specs.Lists.{Has}
-use Rattle.spark_base.proofs.Lists.{Has-append_cases, Has-append_left, Has-append_right, Has-map, Has-map_from}
-use Rattle.place_names.specs.declared.act.Mode.TheVariants as mode
-use Rattle.resolved_tree.specs.Trees.{Code, Objects, Numbers, Package, PackageBody, More, Program, code_items}
-use Rattle.type_definitions.specs.declared.table.Kind.{Kind}
-use Rattle.type_definitions.specs.declared.table.Kind.TheVariants as kind
-use Rattle.type_definitions.specs.declared.table.Entry.{Entry}
-use Rattle.type_definitions.specs.declared.table.Entry.TheVariants as entry
-use Rattle.type_definitions.specs.declared.table.Known.{Known}
-use Rattle.type_definitions.specs.Entries.{entry_of}
-use Rattle.type_definitions.specs.Gathered.{declared_number, declared_text}
-use Rattle.type_definitions.specs.Whole.{known_of}
-use Rattle.typed_tree.specs.declared.object.Object.{Object}
-use Rattle.typed_tree.specs.Expressions.{object_number}
-use Rattle.typed_tree.specs.Statements.{scope_count}
-use Rattle.typed_tree.specs.Programs.{kind_of, entry_kind, DeclaredObject, Home, object_of, package_text, objects_in, over_units, program_objects, text_io, site_of, typed_program}
-use Rattle.flow_paths.specs.Objects.{is_state, is_package_object}
+use Rattle.machine.specs.spark_base.Lists.{Has}
+use Rattle.soundness.proofs.Lists.{Has-append_cases, Has-append_left, Has-append_right, Has-map, Has-map_from}
+use Rattle.machine.specs.place_names.declared.act.Mode.TheVariants as mode
+use Rattle.machine.specs.resolved_tree.Trees.{Code, Objects, Numbers, Package, PackageBody, More, Program, code_items}
+use Rattle.machine.specs.type_definitions.declared.table.Kind.{Kind}
+use Rattle.machine.specs.type_definitions.declared.table.Kind.TheVariants as kind
+use Rattle.machine.specs.type_definitions.declared.table.Entry.{Entry}
+use Rattle.machine.specs.type_definitions.declared.table.Entry.TheVariants as entry
+use Rattle.machine.specs.type_definitions.declared.table.Known.{Known}
+use Rattle.machine.specs.type_definitions.Entries.{entry_of}
+use Rattle.machine.specs.type_definitions.Gathered.{declared_number, declared_text}
+use Rattle.machine.specs.type_definitions.Whole.{known_of}
+use Rattle.machine.specs.typed_tree.declared.object.Object.{Object}
+use Rattle.machine.specs.typed_tree.Expressions.{object_number}
+use Rattle.machine.specs.typed_tree.Statements.{scope_count}
+use Rattle.machine.specs.typed_tree.Programs.{kind_of, entry_kind, DeclaredObject, Home, object_of, package_text, objects_in, over_units, program_objects, text_io, site_of, typed_program}
+use Rattle.machine.specs.flow_paths.Objects.{is_state, is_package_object}
 use Rattle.settled_types.specs.OrderLaws.ScopeLaws.Code.{Once}
 use Rattle.settled_types.specs.OrderLaws.Orderly.{typing_in}
 use Rattle.sound_files.specs.SeenFiles.Fits.{all_numbers, scope_after, unit_scope, units_scope}

@@ -1,9 +1,9 @@
 -- In items and statements what names denote of objects is in scope.
 use Rattle.std.proofs.Common.{◌≡◌, inl, inr, ℕ, true, List, [], ◌∷◌, ◌++◌, map, refl, sym, subst, append_assoc}
 use Rattle.std.specs.List.{flat_map}
-use Rattle.spark_base.specs.declared.position.Pos.{Pos}
-use Rattle.spark_base.specs.Lists.{Has}
-use Rattle.spark_base.proofs.Lists.{Has-append_cases, Has-append_left, Has-append_right}
+use Rattle.machine.specs.spark_base.declared.position.Pos.{Pos}
+use Rattle.machine.specs.spark_base.Lists.{Has}
+use Rattle.soundness.proofs.Lists.{Has-append_cases, Has-append_left, Has-append_right}
 use Rattle.ada_tree.specs.declared.identifier.Identifier.{Identifier}
 use Rattle.ada_tree.specs.declared.identifier.NextIdentifier.{NextIdentifier}
 use Rattle.ada_tree.specs.declared.identifier.NextIdentifier.TheVariants as next_id
@@ -36,8 +36,8 @@ use Rattle.name_events.specs.declared.declaration.DeclarationForm.TheVariants as
 use Rattle.name_events.specs.ExpressionOutline.{declares, declares_all, next_name, folded_identifier, mention, mentions, next_dotted_name, name_events, expr_events, range_events, choice_events, next_choice_events, arg_events, next_arg_events}
 use Rattle.name_events.specs.Outline.{indication_events, component_events, clause_of, use_events, subtype_events, type_events, item_events, simple_events, stmts_events, stmt_box_events, stmt_list_events, stmt_events, stmts_box_events, elsifs_events, elsif_events, when_box_events, whens_events, when_events}
 use Rattle.name_events.specs.Known.{Known}
-use Rattle.resolved_tree.specs.Trees.{Code, code_list}
-use Rattle.resolved_tree.specs.Trees as t
+use Rattle.machine.specs.resolved_tree.Trees.{Code, code_list}
+use Rattle.machine.specs.resolved_tree.Trees as t
 use Rattle.expression_lowering.specs.LoweredExpressions.{Numbers, number_of, lowered_name, lowered_expr, lowered_range}
 use Rattle.tree_lowering.specs.Lowered.{declared_next, declared_all, lowered_subtype, lowered_type, lowered_declaration, item_before, lowered_items, lowered_simple, lowered_stmts, lowered_stmt_box, stmts_row, lowered_stmt, lowered_stmts_box, elsifs_row, lowered_elsif, lowered_when_box, whens_row, lowered_when}
 use Rattle.sound_files.specs.SeenFiles.Uses.{Uses, AreAllowed}

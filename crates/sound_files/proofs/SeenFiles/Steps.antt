@@ -1,7 +1,7 @@
 -- What single events do to what names may denote.
 use Rattle.std.proofs.Common.{◌≡◌, ◌⊎◌, inl, inr, ℕ, ◌<◌, ◌≤◌, Bool, true, false, not, ◌&&◌, List, [], ◌∷◌, ◌++◌, filter, drop, length, nat_eq, refl, sym, ap, ◌∙◌, subst, arith, Option, Some, None, true≢false, if◌then◌else◌}
-use Rattle.spark_base.specs.Lists.{Has}
-use Rattle.spark_base.proofs.Lists.{Has-append_cases, Has-append_left, Has-append_right, Has-filter}
+use Rattle.machine.specs.spark_base.Lists.{Has}
+use Rattle.soundness.proofs.Lists.{Has-append_cases, Has-append_left, Has-append_right, Has-filter}
 use Rattle.name_events.specs.declared.event.Event.TheVariants as e
 use Rattle.name_events.specs.declared.event.FoldedIdentifier.{FoldedIdentifier}
 use Rattle.name_events.specs.declared.declaration.DeclarationForm.{DeclarationForm}

@@ -2,30 +2,30 @@
 use Rattle.std.proofs.Common.{◌≡◌, inl, inr, ℕ, ◌+◌, Bool, true, false, ◌&&◌, ◌||◌, ◌==◌, eq-eqb, List, [], ◌∷◌, ◌++◌, map, refl, sym, ap, subst, true≢false}
 use Rattle.std.specs.Prelude.{reverse, flat_map}
 use Rattle.std.proofs.lemmas.List.{reverse-append}
-use Rattle.spark_base.specs.declared.position.Pos.{Pos}
-use Rattle.spark_base.specs.Lists.{Has}
-use Rattle.spark_base.proofs.Lists.{Has-append_cases, Has-append_left, Has-append_right}
-use Rattle.resolved_tree.specs.Trees.{Tree, Named, Applied, Code, Bounds, Marked, Constrained, RangeOf, Objects, Numbers, Formals, Front, SubBody, Package, PackageBody, Skip, Assign, Call, Exit, Return, If, Branch, Case, When, Loop, While, For, Block, NoMore, More, position, code_items}
-use Rattle.type_definitions.specs.declared.table.Predefined.{Predefined}
-use Rattle.type_definitions.specs.declared.table.Predefined.TheVariants as predefined
-use Rattle.type_definitions.specs.declared.table.Entry.{Entry}
-use Rattle.type_definitions.specs.declared.table.Entry.TheVariants as entry
-use Rattle.type_definitions.specs.declared.judgement.View.{View}
-use Rattle.type_definitions.specs.declared.judgement.View.TheVariants as view
-use Rattle.type_definitions.specs.Types.{full}
-use Rattle.type_definitions.specs.Entries.{entry_of, integer, boolean, marked}
-use Rattle.type_definitions.specs.Names.{reading_of}
-use Rattle.type_definitions.specs.Expressions.{call_arguments}
-use Rattle.type_definitions.specs.Statements.{target_reading}
-use Rattle.type_definitions.specs.Gathered.{indicated, declared_number, in_visible, in_hidden, in_subprogram}
-use Rattle.type_definitions.specs.Declarations.{first_number}
-use Rattle.typed_tree.specs.Trees.{TypedTree, TypedCode, typed_code_list}
-use Rattle.typed_tree.specs.Trees as typed
-use Rattle.typed_tree.specs.Expressions.{Site, object_number, typed_expression, typed_first, typed_optional}
-use Rattle.typed_tree.specs.Statements.{scope_count, statements, typed_object, typed_text, predefined_call, call_of, typed_call, type_read, returned_type, bounds_seen, array_seen, typed_range, typed_choices, typed_body}
-use Rattle.typed_tree.specs.Programs.{TypedSub, placed, formal_numbers, front_formals, subs_in, elaborated, elaboration, over_units}
-use Rattle.flow_paths.specs.Scopes.{is_within}
-use Rattle.flow_paths.specs.Layout.{declared}
+use Rattle.machine.specs.spark_base.declared.position.Pos.{Pos}
+use Rattle.machine.specs.spark_base.Lists.{Has}
+use Rattle.soundness.proofs.Lists.{Has-append_cases, Has-append_left, Has-append_right}
+use Rattle.machine.specs.resolved_tree.Trees.{Tree, Named, Applied, Code, Bounds, Marked, Constrained, RangeOf, Objects, Numbers, Formals, Front, SubBody, Package, PackageBody, Skip, Assign, Call, Exit, Return, If, Branch, Case, When, Loop, While, For, Block, NoMore, More, position, code_items}
+use Rattle.machine.specs.type_definitions.declared.table.Predefined.{Predefined}
+use Rattle.machine.specs.type_definitions.declared.table.Predefined.TheVariants as predefined
+use Rattle.machine.specs.type_definitions.declared.table.Entry.{Entry}
+use Rattle.machine.specs.type_definitions.declared.table.Entry.TheVariants as entry
+use Rattle.machine.specs.type_definitions.declared.judgement.View.{View}
+use Rattle.machine.specs.type_definitions.declared.judgement.View.TheVariants as view
+use Rattle.machine.specs.type_definitions.Types.{full}
+use Rattle.machine.specs.type_definitions.Entries.{entry_of, integer, boolean, marked}
+use Rattle.machine.specs.type_definitions.Names.{reading_of}
+use Rattle.machine.specs.type_definitions.Expressions.{call_arguments}
+use Rattle.machine.specs.type_definitions.Statements.{target_reading}
+use Rattle.machine.specs.type_definitions.Gathered.{indicated, declared_number, in_visible, in_hidden, in_subprogram}
+use Rattle.machine.specs.type_definitions.Declarations.{first_number}
+use Rattle.machine.specs.typed_tree.Trees.{TypedTree, TypedCode, typed_code_list}
+use Rattle.machine.specs.typed_tree.Trees as typed
+use Rattle.machine.specs.typed_tree.Expressions.{Site, object_number, typed_expression, typed_first, typed_optional}
+use Rattle.machine.specs.typed_tree.Statements.{scope_count, statements, typed_object, typed_text, predefined_call, call_of, typed_call, type_read, returned_type, bounds_seen, array_seen, typed_range, typed_choices, typed_body}
+use Rattle.machine.specs.typed_tree.Programs.{TypedSub, placed, formal_numbers, front_formals, subs_in, elaborated, elaboration, over_units}
+use Rattle.machine.specs.flow_paths.Scopes.{is_within}
+use Rattle.machine.specs.flow_paths.Layout.{declared}
 use Rattle.settled_types.specs.OrderLaws.ScopeLaws.Code.{roots, are_seen, is_seen, is_each_seen, body_seen}
 use Rattle.settled_types.proofs.OrderLaws.ScopeLaws.Lists.{and_first, and_second, both_true}
 use Rattle.settled_types.proofs.OrderLaws.ScopeLaws.Seen.{seen_both, seen_more}

@@ -1,8 +1,8 @@
 -- In subprograms and units what names denote of objects is in scope.
 use Rattle.std.proofs.Common.{◌≡◌, inl, inr, ℕ, true, List, [], ◌∷◌, ◌++◌, map, refl, sym, ap, ◌∙◌, subst, append_assoc, Option, Some, None}
 use Rattle.std.specs.List.{flat_map}
-use Rattle.spark_base.specs.Lists.{Has}
-use Rattle.spark_base.proofs.Lists.{Has-append_cases, Has-append_left, Has-append_right}
+use Rattle.machine.specs.spark_base.Lists.{Has}
+use Rattle.soundness.proofs.Lists.{Has-append_cases, Has-append_left, Has-append_right}
 use Rattle.ada_tree.specs.declared.identifier.Identifier.{Identifier}
 use Rattle.ada_tree.specs.declared.declaration.Indication.{Indication}
 use Rattle.ada_tree.specs.declared.subprogram.Subspec.{Subspec}
@@ -25,7 +25,7 @@ use Rattle.name_events.specs.declared.declaration.DeclarationForm.TheVariants as
 use Rattle.name_events.specs.ExpressionOutline.{declares, declares_all, mention, each_of}
 use Rattle.name_events.specs.Outline.{indication_events, item_events, stmts_events, formal_events, next_formal_events, formals_events, subspec_events, body_form, subspec_name, closing_events, subprogram_events, decl_events, body_part_events}
 use Rattle.name_events.specs.Known.{Known, here}
-use Rattle.resolved_tree.specs.Trees.{Code, code_list}
+use Rattle.machine.specs.resolved_tree.Trees.{Code, code_list}
 use Rattle.expression_lowering.specs.LoweredExpressions.{Numbers}
 use Rattle.tree_lowering.specs.Lowered.{declared_all, lowered_items, before_all, lowered_stmts, lowered_formal, lowered_next_formal, lowered_formals, lowered_subspec, lowered_subprogram, decl_before, part_before, lowered_decls}
 use Rattle.sound_files.specs.SeenFiles.Fits.{all_numbers, group_numbers, formal_numbers, front_numbers, scope_after, AreObjects, Fits}

@@ -2,25 +2,25 @@
 -- text.
 use Rattle.std.proofs.Common.{◌≡◌, ◌≤◌, ◌∙◌, inl, inr, sym, ap, subst, ℕ, Bool, true, List, [], ◌∷◌, map, length, IsTrue, Some, None}
 use Rattle.std.specs.Prelude.{flat_map}
-use Rattle.spark_base.specs.Lists.{Has}
-use Rattle.place_names.specs.declared.act.Mode.TheVariants as mode
-use Rattle.type_definitions.specs.declared.table.Shape.TheVariants as shape
-use Rattle.type_definitions.specs.Types.{shape_of}
+use Rattle.machine.specs.spark_base.Lists.{Has}
+use Rattle.machine.specs.place_names.declared.act.Mode.TheVariants as mode
+use Rattle.machine.specs.type_definitions.declared.table.Shape.TheVariants as shape
+use Rattle.machine.specs.type_definitions.Types.{shape_of}
 use Rattle.ada_lexer.specs.Tokens.{Cut}
 use Rattle.ada_tree.specs.declared.unit.SourceUnit.{SourceUnit}
 use Rattle.name_events.specs.Outline.{source_events}
 use Rattle.name_events.specs.Identified.{identified}
 use Rattle.name_events.specs.Denotes.{known_of as names_known}
 use Rattle.name_events.specs.Faults.{name_fault}
-use Rattle.resolved_tree.specs.Trees.{Code, Program}
-use Rattle.type_definitions.specs.declared.table.ObjectInfo.{ObjectInfo}
-use Rattle.type_definitions.specs.declared.table.Entry.TheVariants as entry
-use Rattle.type_definitions.specs.declared.table.Profile.{Profile}
-use Rattle.type_definitions.specs.Entries.{entry_of}
-use Rattle.type_definitions.specs.Whole.{outside, known_of, type_fault}
+use Rattle.machine.specs.resolved_tree.Trees.{Code, Program}
+use Rattle.machine.specs.type_definitions.declared.table.ObjectInfo.{ObjectInfo}
+use Rattle.machine.specs.type_definitions.declared.table.Entry.TheVariants as entry
+use Rattle.machine.specs.type_definitions.declared.table.Profile.{Profile}
+use Rattle.machine.specs.type_definitions.Entries.{entry_of}
+use Rattle.machine.specs.type_definitions.Whole.{outside, known_of, type_fault}
 use Rattle.typing_steps.specs.Programs.{program_of}
-use Rattle.typed_tree.specs.Expressions.{object_number, object_type}
-use Rattle.typed_tree.specs.Programs.{TypedSub, DeclaredObject, program_objects}
+use Rattle.machine.specs.typed_tree.Expressions.{object_number, object_type}
+use Rattle.machine.specs.typed_tree.Programs.{TypedSub, DeclaredObject, program_objects}
 use Rattle.type_sizes.specs.Formed.{all_formed}
 use Rattle.type_rules.proofs.Formed.{files_formed}
 use Rattle.settled_types.specs.Orderly.{at_start, IsOrderly}
@@ -33,10 +33,10 @@ use Rattle.settled_types.specs.FilePositions.Order.{Ascends, event_positions}
 use Rattle.settled_types.specs.FilePositions.Texts.{AreParsed}
 use Rattle.settled_types.proofs.FilePositions.Ascending.{events_ascend}
 use Rattle.settled_types.proofs.FilePositions.Main.{files_apart as parsed_apart, files_ended}
-use Rattle.flow_paths.specs.Objects.{object_at, sub_at, is_anonymous, traverses, view_of}
-use Rattle.flow_paths.specs.Views.{traversed_of}
-use Rattle.flow_paths.specs.Points.{FlowPoint}
-use Rattle.flow_paths.specs.Laid.{FlowSub, flow_typing}
+use Rattle.machine.specs.flow_paths.Objects.{object_at, sub_at, is_anonymous, traverses, view_of}
+use Rattle.machine.specs.flow_paths.Views.{traversed_of}
+use Rattle.machine.specs.flow_paths.Points.{FlowPoint}
+use Rattle.machine.specs.flow_paths.Laid.{FlowSub, flow_typing}
 use Rattle.settled_types.specs.GatheredLaws.Made.{IsMade}
 use Rattle.settled_types.specs.GatheredLaws.Views.{AreViews}
 use Rattle.settled_types.proofs.GatheredLaws.Components.{components_left}

@@ -5,35 +5,35 @@ use Rattle.std.specs.List.{AllByRecursion, position_or_len}
 use Rattle.std.specs.Cmp.Lexicographic.{pointwise}
 use Rattle.std.specs.Char.{to_ascii_lowercase}
 use Rattle.std.proofs.lemmas.Bool.{eqb-true, eq-eqb, false≢true, true≢false}
-use Rattle.spark_base.specs.Lists.{Has}
-use Rattle.spark_base.proofs.Lists.{Has-append_left, Has-append_right, Has-map}
-use Rattle.place_names.specs.declared.act.Mode.{Mode}
-use Rattle.place_names.specs.declared.act.Mode.TheVariants as mode
-use Rattle.resolved_tree.specs.Trees.{Code, More, Plain, Anonymous, Formals, Front, SubBody, PackageBody, Program, code_items}
-use Rattle.type_definitions.specs.declared.judgement.Fault.{Fault}
-use Rattle.type_definitions.specs.declared.judgement.View.{View}
-use Rattle.type_definitions.specs.declared.judgement.View.TheVariants as view
-use Rattle.type_definitions.specs.declared.table.Entry.TheVariants as entry
-use Rattle.type_definitions.specs.declared.table.FormalInfo.{FormalInfo}
-use Rattle.type_definitions.specs.declared.table.Kind.TheVariants as kind
-use Rattle.type_definitions.specs.declared.table.Known.{Known}
-use Rattle.type_definitions.specs.declared.table.Shape.TheVariants as shape
-use Rattle.type_definitions.specs.declared.table.ObjectInfo.{ObjectInfo}
-use Rattle.type_definitions.specs.declared.table.Profile.{Profile}
-use Rattle.type_definitions.specs.Types.{is_nil, Table, base, full, is_scalar, is_untyped, is_same, same_bounds, shape_of, view_of}
-use Rattle.type_definitions.specs.Faults.{demand}
-use Rattle.type_definitions.specs.Entries.{entry_of, same_word, denotes_type, marked, is_complete}
-use Rattle.type_definitions.specs.Names.{Context, seen}
-use Rattle.type_definitions.specs.Expressions.{by_name, no_formal, profile_of, is_access, is_anonymous, is_in, is_traversal, to_constant, designated}
-use Rattle.type_definitions.specs.Gathered.{is_anonymous_indication, declared_pos, declared_number, declared_text, front_number, texts, indicated, indicates_type, formal_group, formal_infos, profile_from, anonymous_result, in_hidden}
-use Rattle.type_definitions.specs.Declarations.{code_faults, body_faults, front_faults, agrees, same_mode, same_indicated, same_formal, same_formals, same_result, indication_faults, result_faults, formals_group, formals_faults, formal_faults, is_traversable, has_none}
-use Rattle.type_definitions.specs.Whole.{outside, known_of, type_fault}
-use Rattle.typed_tree.specs.declared.object.Object.{Object}
-use Rattle.typed_tree.specs.Expressions.{Site, object_number}
-use Rattle.typed_tree.specs.Statements.{scope_count}
-use Rattle.typed_tree.specs.Programs.{TypedSub, DeclaredObject, Home, object_of, formals_of as home_formals, front_formals, formal_numbers, local, in_package, package_text, objects_in, over_units, bodies_in, placed, subs_in, elaboration, program_objects, text_io, typed_program}
-use Rattle.flow_paths.specs.Objects.{Typing, Signature, object_at, sub_at, traverses, is_anonymous as anonymous_view}
-use Rattle.flow_paths.specs.Laid.{signature}
+use Rattle.machine.specs.spark_base.Lists.{Has}
+use Rattle.soundness.proofs.Lists.{Has-append_left, Has-append_right, Has-map}
+use Rattle.machine.specs.place_names.declared.act.Mode.{Mode}
+use Rattle.machine.specs.place_names.declared.act.Mode.TheVariants as mode
+use Rattle.machine.specs.resolved_tree.Trees.{Code, More, Plain, Anonymous, Formals, Front, SubBody, PackageBody, Program, code_items}
+use Rattle.machine.specs.type_definitions.declared.judgement.Fault.{Fault}
+use Rattle.machine.specs.type_definitions.declared.judgement.View.{View}
+use Rattle.machine.specs.type_definitions.declared.judgement.View.TheVariants as view
+use Rattle.machine.specs.type_definitions.declared.table.Entry.TheVariants as entry
+use Rattle.machine.specs.type_definitions.declared.table.FormalInfo.{FormalInfo}
+use Rattle.machine.specs.type_definitions.declared.table.Kind.TheVariants as kind
+use Rattle.machine.specs.type_definitions.declared.table.Known.{Known}
+use Rattle.machine.specs.type_definitions.declared.table.Shape.TheVariants as shape
+use Rattle.machine.specs.type_definitions.declared.table.ObjectInfo.{ObjectInfo}
+use Rattle.machine.specs.type_definitions.declared.table.Profile.{Profile}
+use Rattle.machine.specs.type_definitions.Types.{is_nil, Table, base, full, is_scalar, is_untyped, is_same, same_bounds, shape_of, view_of}
+use Rattle.machine.specs.type_definitions.Faults.{demand}
+use Rattle.machine.specs.type_definitions.Entries.{entry_of, same_word, denotes_type, marked, is_complete}
+use Rattle.machine.specs.type_definitions.Names.{Context, seen}
+use Rattle.machine.specs.type_definitions.Expressions.{by_name, no_formal, profile_of, is_access, is_anonymous, is_in, is_traversal, to_constant, designated}
+use Rattle.machine.specs.type_definitions.Gathered.{is_anonymous_indication, declared_pos, declared_number, declared_text, front_number, texts, indicated, indicates_type, formal_group, formal_infos, profile_from, anonymous_result, in_hidden}
+use Rattle.machine.specs.type_definitions.Declarations.{code_faults, body_faults, front_faults, agrees, same_mode, same_indicated, same_formal, same_formals, same_result, indication_faults, result_faults, formals_group, formals_faults, formal_faults, is_traversable, has_none}
+use Rattle.machine.specs.type_definitions.Whole.{outside, known_of, type_fault}
+use Rattle.machine.specs.typed_tree.declared.object.Object.{Object}
+use Rattle.machine.specs.typed_tree.Expressions.{Site, object_number}
+use Rattle.machine.specs.typed_tree.Statements.{scope_count}
+use Rattle.machine.specs.typed_tree.Programs.{TypedSub, DeclaredObject, Home, object_of, formals_of as home_formals, front_formals, formal_numbers, local, in_package, package_text, objects_in, over_units, bodies_in, placed, subs_in, elaboration, program_objects, text_io, typed_program}
+use Rattle.machine.specs.flow_paths.Objects.{Typing, Signature, object_at, sub_at, traverses, is_anonymous as anonymous_view}
+use Rattle.machine.specs.flow_paths.Laid.{signature}
 use Rattle.soundness.specs.TypedLaws.Fine.{Agree, Laws}
 use Rattle.soundness.proofs.TypedLaws.Agreeing.{of_known, holds, nil_left, nil_right, and_left, and_right}
 use Rattle.settled_types.specs.OrderLaws.ScopeLaws.Code.{Once}

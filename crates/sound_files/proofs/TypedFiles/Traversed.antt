@@ -2,33 +2,33 @@
 -- formals of anonymous access types are such.
 use Rattle.std.proofs.Common.{◌≡◌, ◌⊎◌, inl, inr, refl, sym, ap, ◌∙◌, subst, ℕ, zero, suc, Bool, true, false, not, ◌&&◌, ◌||◌, Option, List, [], ◌∷◌, ◌++◌, map, get_or, Some, None, true≢false, IsTrue}
 use Rattle.std.specs.Prelude.{flat_map, is_some}
-use Rattle.spark_base.specs.Lists.{Has}
-use Rattle.spark_base.proofs.Lists.{Has-append_cases}
-use Rattle.place_names.specs.declared.act.Mode.{Mode}
-use Rattle.place_names.specs.declared.act.Mode.TheVariants as mode
-use Rattle.resolved_tree.specs.Trees.{Code, NoMore, More, Plain, Anonymous, Formals, Front, Program, code_items}
-use Rattle.type_definitions.specs.declared.judgement.Fault.{Fault}
-use Rattle.type_definitions.specs.declared.judgement.View.{View}
-use Rattle.type_definitions.specs.declared.judgement.View.TheVariants as view
-use Rattle.type_definitions.specs.declared.table.Entry.{Entry}
-use Rattle.type_definitions.specs.declared.table.Entry.TheVariants as entry
-use Rattle.type_definitions.specs.declared.table.Known.{Known}
-use Rattle.type_definitions.specs.declared.table.ObjectInfo.{ObjectInfo}
-use Rattle.type_definitions.specs.declared.table.Profile.{Profile}
-use Rattle.type_definitions.specs.declared.table.Shape.TheVariants as shape
-use Rattle.type_definitions.specs.Types.{Table, full, shape_of}
-use Rattle.type_definitions.specs.Faults.{demand}
-use Rattle.type_definitions.specs.Entries.{entry_of, integer, marked, denotes_type}
-use Rattle.type_definitions.specs.Names.{Context, seen}
-use Rattle.type_definitions.specs.Expressions.{profile_of, is_access, is_anonymous, is_in, is_traversal}
-use Rattle.type_definitions.specs.Gathered.{is_anonymous_indication, declared_pos, declared_number, front_number, indicated, indicates_type, profile_from}
-use Rattle.type_definitions.specs.Declarations.{code_faults, same_access, same_result, indication_faults, result_faults, group_faults, formals_group, formals_faults, formal_faults, is_traversable, has_none}
-use Rattle.type_definitions.specs.Whole.{outside, known_of, type_fault}
-use Rattle.typed_tree.specs.Expressions.{Site, object_number}
-use Rattle.typed_tree.specs.Programs.{DeclaredObject, front_formals, formal_numbers, bodies_in, over_units, subs_in, program_objects, text_io, typed_program}
-use Rattle.flow_paths.specs.Objects.{Typing, Signature, object_at, sub_at, traverses, is_anonymous as anonymous_view}
-use Rattle.flow_paths.specs.Laid.{signature}
-use Rattle.flow_paths.specs.Views.{traversed_of}
+use Rattle.machine.specs.spark_base.Lists.{Has}
+use Rattle.soundness.proofs.Lists.{Has-append_cases}
+use Rattle.machine.specs.place_names.declared.act.Mode.{Mode}
+use Rattle.machine.specs.place_names.declared.act.Mode.TheVariants as mode
+use Rattle.machine.specs.resolved_tree.Trees.{Code, NoMore, More, Plain, Anonymous, Formals, Front, Program, code_items}
+use Rattle.machine.specs.type_definitions.declared.judgement.Fault.{Fault}
+use Rattle.machine.specs.type_definitions.declared.judgement.View.{View}
+use Rattle.machine.specs.type_definitions.declared.judgement.View.TheVariants as view
+use Rattle.machine.specs.type_definitions.declared.table.Entry.{Entry}
+use Rattle.machine.specs.type_definitions.declared.table.Entry.TheVariants as entry
+use Rattle.machine.specs.type_definitions.declared.table.Known.{Known}
+use Rattle.machine.specs.type_definitions.declared.table.ObjectInfo.{ObjectInfo}
+use Rattle.machine.specs.type_definitions.declared.table.Profile.{Profile}
+use Rattle.machine.specs.type_definitions.declared.table.Shape.TheVariants as shape
+use Rattle.machine.specs.type_definitions.Types.{Table, full, shape_of}
+use Rattle.machine.specs.type_definitions.Faults.{demand}
+use Rattle.machine.specs.type_definitions.Entries.{entry_of, integer, marked, denotes_type}
+use Rattle.machine.specs.type_definitions.Names.{Context, seen}
+use Rattle.machine.specs.type_definitions.Expressions.{profile_of, is_access, is_anonymous, is_in, is_traversal}
+use Rattle.machine.specs.type_definitions.Gathered.{is_anonymous_indication, declared_pos, declared_number, front_number, indicated, indicates_type, profile_from}
+use Rattle.machine.specs.type_definitions.Declarations.{code_faults, same_access, same_result, indication_faults, result_faults, group_faults, formals_group, formals_faults, formal_faults, is_traversable, has_none}
+use Rattle.machine.specs.type_definitions.Whole.{outside, known_of, type_fault}
+use Rattle.machine.specs.typed_tree.Expressions.{Site, object_number}
+use Rattle.machine.specs.typed_tree.Programs.{DeclaredObject, front_formals, formal_numbers, bodies_in, over_units, subs_in, program_objects, text_io, typed_program}
+use Rattle.machine.specs.flow_paths.Objects.{Typing, Signature, object_at, sub_at, traverses, is_anonymous as anonymous_view}
+use Rattle.machine.specs.flow_paths.Laid.{signature}
+use Rattle.machine.specs.flow_paths.Views.{traversed_of}
 use Rattle.std.specs.List.{position_or_len}
 use Rattle.std.specs.Prelude.{nat_eq}
 use Rattle.std.proofs.lemmas.Bool.{false≢true, true≢false}

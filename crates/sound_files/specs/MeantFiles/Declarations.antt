@@ -1,15 +1,15 @@
 -- The declarations of code, each with its form and its number, in the order of the text.
 use Rattle.std.specs.Prelude.{◌≡◌, ◌≤◌, ℕ, true, List, [], ◌∷◌, ◌++◌, Some}
-use Rattle.spark_base.specs.Lists.{Has}
-use Rattle.resolved_tree.specs.declared.node.Mark.{Mark}
-use Rattle.resolved_tree.specs.Trees.{Code, Plain, Bounds, Marked, Constrained, Enumeration, Incomplete, Private, TypeDecl, Subtype, ConstrainedSubtype, Objects, Numbers, Instance, Formals, Front, SubDecl, SubBody, Package, PackageBody, If, Branch, Case, When, Loop, While, For, Block, More}
+use Rattle.machine.specs.spark_base.Lists.{Has}
+use Rattle.machine.specs.resolved_tree.declared.node.Mark.{Mark}
+use Rattle.machine.specs.resolved_tree.Trees.{Code, Plain, Bounds, Marked, Constrained, Enumeration, Incomplete, Private, TypeDecl, Subtype, ConstrainedSubtype, Objects, Numbers, Instance, Formals, Front, SubDecl, SubBody, Package, PackageBody, If, Branch, Case, When, Loop, While, For, Block, More}
 use Rattle.name_events.specs.declared.event.Event.{Event}
 use Rattle.name_events.specs.declared.event.Event.TheVariants as e
 use Rattle.name_events.specs.declared.declaration.Identified.{Identified}
 use Rattle.name_events.specs.declared.declaration.DeclarationForm.{DeclarationForm}
 use Rattle.name_events.specs.declared.declaration.DeclarationForm.TheVariants as form
 use Rattle.name_events.specs.Declarations.{is_body_form}
-use Rattle.type_definitions.specs.Gathered.{declared_number, front_number}
+use Rattle.machine.specs.type_definitions.Gathered.{declared_number, front_number}
 use Rattle.settled_types.specs.OrderlyFiles.Numbered.{number_of_pos}
 use Rattle.sound_files.specs.SeenFiles.Uses.{Uses}
 

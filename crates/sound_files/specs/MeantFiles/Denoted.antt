@@ -1,7 +1,7 @@
 -- Code whose names denote declarations as asked, and which declares such objects.
 use Rattle.std.specs.Prelude.{ℕ}
-use Rattle.resolved_tree.specs.Trees.{Code, Bounds, Constrained, Objects, Numbers, SubBody, Package, PackageBody, Assign, Call, Exit, Return, If, Branch, Case, When, Loop, While, For, Block, More}
-use Rattle.type_definitions.specs.Gathered.{declared_number}
+use Rattle.machine.specs.resolved_tree.Trees.{Code, Bounds, Constrained, Objects, Numbers, SubBody, Package, PackageBody, Assign, Call, Exit, Return, If, Branch, Case, When, Loop, While, For, Block, More}
+use Rattle.machine.specs.type_definitions.Gathered.{declared_number}
 use Rattle.sound_files.specs.SeenFiles.Uses.{Uses}
 use Rattle.sound_files.specs.SeenFiles.Fits.{all_numbers, AreObjects}
 

@@ -1,6 +1,6 @@
 -- Code in which no subprogram has formals.
 use Rattle.std.specs.Prelude.{◌≡◌}
-use Rattle.resolved_tree.specs.Trees.{Code, NoMore, More, Front, SubDecl, SubBody, Package, PackageBody, If, Branch, Case, When, Loop, While, For, Block}
+use Rattle.machine.specs.resolved_tree.Trees.{Code, NoMore, More, Front, SubDecl, SubBody, Package, PackageBody, If, Branch, Case, When, Loop, While, For, Block}
 
 abbrev pub IsFormlessFront : Code → Type 0
 IsFormlessFront (Front d formals result) = formals ≡ NoMore

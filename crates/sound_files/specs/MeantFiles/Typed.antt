@@ -1,15 +1,15 @@
 -- What is known of declared objects and formals: they are objects of the types that are indicated for them, and of
 -- their kinds.
 use Rattle.std.specs.Prelude.{◌≡◌, ℕ, Bool}
-use Rattle.resolved_tree.specs.Trees.{Code, Objects, Numbers, Formals, Front, SubBody, Package, PackageBody, If, Branch, Case, When, Loop, While, For, Block, More}
-use Rattle.type_definitions.specs.declared.table.ObjectInfo.{ObjectInfo}
-use Rattle.type_definitions.specs.declared.table.Kind.{Kind}
-use Rattle.type_definitions.specs.declared.table.Kind.TheVariants as kind
-use Rattle.type_definitions.specs.declared.table.Entry.TheVariants as entry
-use Rattle.type_definitions.specs.declared.table.Known.{Known}
-use Rattle.type_definitions.specs.Entries.{entry_of, integer}
-use Rattle.type_definitions.specs.Names.{Context}
-use Rattle.type_definitions.specs.Gathered.{indicated, object_kind, parameter_type, declared_number, in_subprogram, in_visible, in_hidden}
+use Rattle.machine.specs.resolved_tree.Trees.{Code, Objects, Numbers, Formals, Front, SubBody, Package, PackageBody, If, Branch, Case, When, Loop, While, For, Block, More}
+use Rattle.machine.specs.type_definitions.declared.table.ObjectInfo.{ObjectInfo}
+use Rattle.machine.specs.type_definitions.declared.table.Kind.{Kind}
+use Rattle.machine.specs.type_definitions.declared.table.Kind.TheVariants as kind
+use Rattle.machine.specs.type_definitions.declared.table.Entry.TheVariants as entry
+use Rattle.machine.specs.type_definitions.declared.table.Known.{Known}
+use Rattle.machine.specs.type_definitions.Entries.{entry_of, integer}
+use Rattle.machine.specs.type_definitions.Names.{Context}
+use Rattle.machine.specs.type_definitions.Gathered.{indicated, object_kind, parameter_type, declared_number, in_subprogram, in_visible, in_hidden}
 use Rattle.soundness.specs.TypedLaws.TypedPoints.Meant.{IsIndicated}
 
 -- What this number declares is an object of this type and this kind.

@@ -1,8 +1,8 @@
 -- Resolved code in which names of objects denote what is in scope.
 use Rattle.std.specs.Prelude.{ℕ, List, [], ◌∷◌, ◌++◌, map, flat_map}
-use Rattle.spark_base.specs.Lists.{Has}
-use Rattle.resolved_tree.specs.Trees.{Code, Bounds, Constrained, RangeOf, Objects, Numbers, Formals, Front, SubDecl, SubBody, Package, PackageBody, Assign, Call, Exit, Return, If, Branch, Case, When, Loop, While, For, Block, NoMore, More, code_items}
-use Rattle.type_definitions.specs.Gathered.{declared_number}
+use Rattle.machine.specs.spark_base.Lists.{Has}
+use Rattle.machine.specs.resolved_tree.Trees.{Code, Bounds, Constrained, RangeOf, Objects, Numbers, Formals, Front, SubDecl, SubBody, Package, PackageBody, Assign, Call, Exit, Return, If, Branch, Case, When, Loop, While, For, Block, NoMore, More, code_items}
+use Rattle.machine.specs.type_definitions.Gathered.{declared_number}
 use Rattle.sound_files.specs.SeenFiles.Uses.{Uses}
 
 -- The numbers of a list of identifiers, and those of the formals of a subprogram.

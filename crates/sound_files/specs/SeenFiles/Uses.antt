@@ -5,7 +5,7 @@ use Rattle.name_events.specs.declared.event.FoldedName.{FoldedName}
 use Rattle.name_events.specs.declared.event.Event.{Event}
 use Rattle.name_events.specs.declared.event.Event.TheVariants as e
 use Rattle.name_events.specs.Identified.{number_at}
-use Rattle.resolved_tree.specs.Trees.{Tree, Named, Parens, Unary, Binary, Aggregate, Others, New, Applied, Argument, More}
+use Rattle.machine.specs.resolved_tree.Trees.{Tree, Named, Parens, Unary, Binary, Aggregate, Others, New, Applied, Argument, More}
 use Rattle.expression_lowering.specs.LoweredExpressions.{Numbers, before_others, last_of}
 
 -- Each declaration that a name in the expression denotes is as asked.

@@ -1,10 +1,10 @@
 -- The parameters of loops are declared by nothing else.
 use Rattle.std.proofs.Common.{sym, subst, inl, inr, ℕ, List, ◌++◌}
-use Rattle.spark_base.specs.Lists.{Has}
-use Rattle.spark_base.proofs.Lists.{Has-append_left, Has-append_right, Has-append_cases}
-use Rattle.typed_tree.specs.Trees.{TypedCode}
-use Rattle.typed_tree.specs.Trees as typed
-use Rattle.flow_paths.specs.Laid.{declared_within}
+use Rattle.machine.specs.spark_base.Lists.{Has}
+use Rattle.soundness.proofs.Lists.{Has-append_left, Has-append_right, Has-append_cases}
+use Rattle.machine.specs.typed_tree.Trees.{TypedCode}
+use Rattle.machine.specs.typed_tree.Trees as typed
+use Rattle.machine.specs.flow_paths.Laid.{declared_within}
 use Rattle.settled_types.specs.OrderLaws.ScopeLaws.Code.{Once}
 use Rattle.settled_types.proofs.OrderLaws.ScopeLaws.Lists.{once_left, once_right, once_apart}
 use Rattle.settled_types.specs.OrderLaws.Placed.{parameters}

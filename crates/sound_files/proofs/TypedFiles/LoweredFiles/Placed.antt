@@ -4,21 +4,21 @@ use Rattle.std.proofs.Common.{◌≡◌, refl, sym, ap, ◌∙◌, subst, inl, i
 use Rattle.std.specs.Prelude.{flat_map, is_some, reverse}
 use Rattle.std.specs.List.{AllByRecursion}
 use Rattle.std.proofs.lemmas.Bool.{false≢true}
-use Rattle.spark_base.specs.Lists.{Has}
-use Rattle.spark_base.proofs.Lists.{Has-append_left, Has-append_right, Has-append_cases, Has-map, Has-map_from}
-use Rattle.type_definitions.specs.Types.{Table}
-use Rattle.typed_tree.specs.declared.object.Object.{Object}
-use Rattle.typed_tree.specs.Trees.{TypedCode}
-use Rattle.typed_tree.specs.Trees as typed
-use Rattle.typed_tree.specs.Programs.{TypedSub, TypedProgram, text_io}
-use Rattle.flow_paths.specs.Instructions.{Instruction}
-use Rattle.flow_paths.specs.Instructions as instruction
-use Rattle.flow_paths.specs.Objects.{Typing, object_at, is_package_object, is_state}
-use Rattle.flow_paths.specs.Acts.{Frame}
-use Rattle.flow_paths.specs.Prep.{Setting}
-use Rattle.flow_paths.specs.Points.{NamedPoint, FlowPoint, entry, flow_point}
-use Rattle.flow_paths.specs.Layout.{declared, laid}
-use Rattle.flow_paths.specs.Laid.{temporary_object, FlowSub, FlowProgram, NamedSub, typing_of, flow_typing, around_body, unnumbered, numbers_from, number_in, frame_of, kept_roots, sub_facts, procedure_end, function_end, sub_temporaries, named_sub, named_subs, elaborated, all_named, flow_sub, flow_named, flow_program, declared_within}
+use Rattle.machine.specs.spark_base.Lists.{Has}
+use Rattle.soundness.proofs.Lists.{Has-append_left, Has-append_right, Has-append_cases, Has-map, Has-map_from}
+use Rattle.machine.specs.type_definitions.Types.{Table}
+use Rattle.machine.specs.typed_tree.declared.object.Object.{Object}
+use Rattle.machine.specs.typed_tree.Trees.{TypedCode}
+use Rattle.machine.specs.typed_tree.Trees as typed
+use Rattle.machine.specs.typed_tree.Programs.{TypedSub, TypedProgram, text_io}
+use Rattle.machine.specs.flow_paths.Instructions.{Instruction}
+use Rattle.machine.specs.flow_paths.Instructions as instruction
+use Rattle.machine.specs.flow_paths.Objects.{Typing, object_at, is_package_object, is_state}
+use Rattle.machine.specs.flow_paths.Acts.{Frame}
+use Rattle.machine.specs.flow_paths.Prep.{Setting}
+use Rattle.machine.specs.flow_paths.Points.{NamedPoint, FlowPoint, entry, flow_point}
+use Rattle.machine.specs.flow_paths.Layout.{declared, laid}
+use Rattle.machine.specs.flow_paths.Laid.{temporary_object, FlowSub, FlowProgram, NamedSub, typing_of, flow_typing, around_body, unnumbered, numbers_from, number_in, frame_of, kept_roots, sub_facts, procedure_end, function_end, sub_temporaries, named_sub, named_subs, elaborated, all_named, flow_sub, flow_named, flow_program, declared_within}
 use Rattle.machine.specs.States.{no_sub, sub_of}
 use Rattle.settled_types.specs.OrderLaws.ScopeLaws.Code.{objects_of}
 use Rattle.settled_types.specs.OrderLaws.ScopeLaws.Order.{named_in}

@@ -2,10 +2,10 @@
 use Rattle.std.proofs.Common.{◌≡◌, refl, sym, ap, ◌∙◌, subst, inl, inr, ℕ, Bool, true, false, ◌||◌, ◌==◌, List, [], ◌∷◌, ◌++◌, map, if◌then◌else◌, arith}
 use Rattle.std.proofs.lemmas.Bool.{eq-eqb, false≢true}
 use Rattle.std.proofs.lemmas.List.Folds.{list_any-append}
-use Rattle.spark_base.specs.Lists.{Has}
-use Rattle.spark_base.proofs.Lists.{Has-append_cases}
-use Rattle.flow_paths.specs.Instructions.{Instruction, Declare, Start}
-use Rattle.flow_paths.specs.Points.{FlowPoint}
+use Rattle.machine.specs.spark_base.Lists.{Has}
+use Rattle.soundness.proofs.Lists.{Has-append_cases}
+use Rattle.machine.specs.flow_paths.Instructions.{Instruction, Declare, Start}
+use Rattle.machine.specs.flow_paths.Points.{FlowPoint}
 use Rattle.run_codes.specs.Lowered.{Kept}
 use Rattle.run_codes.specs.Programs.{kept, has_room, with_room, room_of, rooms_of, is_loop}
 use Rattle.sound_files.proofs.TypedFiles.LoweredFiles.Opened.{Opens}

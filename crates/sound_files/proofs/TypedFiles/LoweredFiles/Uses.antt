@@ -2,15 +2,15 @@
 -- the code declares has.
 use Rattle.std.proofs.Common.{◌≡◌, refl, subst, ◌⊎◌, inl, inr, ℕ, ◌≤◌, Bool, true, false, ◌&&◌, ◌||◌, List, [], ◌∷◌, ◌++◌}
 use Rattle.std.specs.Prelude.{reverse}
-use Rattle.spark_base.specs.Lists.{Has}
-use Rattle.spark_base.proofs.Lists.{Has-append_left, Has-append_right, Has-append_cases}
-use Rattle.typed_tree.specs.Trees.{TypedTree, Name, Component, Designated, Element, Image, Parens, Unary, Binary, Short, IsNull, Aggregate, Alike, New, TypedCode, Declare, Assign, Skip, Output, Input, Release, If, Branch, Case, When, Loop, While, For, Exit, Return, Block}
-use Rattle.typed_tree.specs.Trees as typed
-use Rattle.flow_paths.specs.Instructions.{Instruction, Evaluate}
-use Rattle.flow_paths.specs.Instructions as instruction
-use Rattle.flow_paths.specs.Layout.{declared}
-use Rattle.flow_paths.specs.Laid.{declared_within}
-use Rattle.flow_paths.specs.Scopes.{is_within}
+use Rattle.machine.specs.spark_base.Lists.{Has}
+use Rattle.soundness.proofs.Lists.{Has-append_left, Has-append_right, Has-append_cases}
+use Rattle.machine.specs.typed_tree.Trees.{TypedTree, Name, Component, Designated, Element, Image, Parens, Unary, Binary, Short, IsNull, Aggregate, Alike, New, TypedCode, Declare, Assign, Skip, Output, Input, Release, If, Branch, Case, When, Loop, While, For, Exit, Return, Block}
+use Rattle.machine.specs.typed_tree.Trees as typed
+use Rattle.machine.specs.flow_paths.Instructions.{Instruction, Evaluate}
+use Rattle.machine.specs.flow_paths.Instructions as instruction
+use Rattle.machine.specs.flow_paths.Layout.{declared}
+use Rattle.machine.specs.flow_paths.Laid.{declared_within}
+use Rattle.machine.specs.flow_paths.Scopes.{is_within}
 use Rattle.settled_types.specs.OrderLaws.ScopeLaws.Code.{roots, are_seen, is_seen, is_each_seen}
 use Rattle.settled_types.specs.OrderLaws.ScopeLaws.Order.{named_in}
 use Rattle.settled_types.proofs.OrderLaws.ScopeLaws.Lists.{and_first, and_second, within_has, has_reverse}

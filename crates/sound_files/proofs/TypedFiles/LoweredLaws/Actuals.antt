@@ -2,16 +2,16 @@
 use Rattle.std.proofs.Common.{◌≡◌, refl, sym, ◌∙◌, subst, inl, ℕ, ◌+◌, Bool, true, false, not, List, [], ◌∷◌, map, Option, Some, None, if◌then◌else◌}
 use Rattle.std.specs.Prelude.{is_some}
 use Rattle.std.proofs.lemmas.Bool.{false≢true, true≢false}
-use Rattle.spark_base.specs.declared.position.Pos.{Pos}
-use Rattle.place_names.specs.declared.act.Mode.{Mode}
-use Rattle.place_names.specs.declared.act.Mode.TheVariants as mode
-use Rattle.type_definitions.specs.declared.table.Shape.{Shape}
-use Rattle.type_definitions.specs.declared.table.Shape.TheVariants as shape
-use Rattle.type_definitions.specs.Types.{Table, shape_of, view_of, full, is_scalar, is_owning, owns_of}
-use Rattle.type_definitions.specs.Entries.{integer, boolean}
-use Rattle.typed_tree.specs.Trees.{TypedTree, Text, Name, Parens, Image, Binary, NoMore, More}
-use Rattle.flow_paths.specs.Objects.{Typing, object_at, sub_at, Passing, passing, passing_by, passings, traverses, first_traversed}
-use Rattle.flow_paths.specs.Names.{waiting}
+use Rattle.machine.specs.spark_base.declared.position.Pos.{Pos}
+use Rattle.machine.specs.place_names.declared.act.Mode.{Mode}
+use Rattle.machine.specs.place_names.declared.act.Mode.TheVariants as mode
+use Rattle.machine.specs.type_definitions.declared.table.Shape.{Shape}
+use Rattle.machine.specs.type_definitions.declared.table.Shape.TheVariants as shape
+use Rattle.machine.specs.type_definitions.Types.{Table, shape_of, view_of, full, is_scalar, is_owning, owns_of}
+use Rattle.machine.specs.type_definitions.Entries.{integer, boolean}
+use Rattle.machine.specs.typed_tree.Trees.{TypedTree, Text, Name, Parens, Image, Binary, NoMore, More}
+use Rattle.machine.specs.flow_paths.Objects.{Typing, object_at, sub_at, Passing, passing, passing_by, passings, traverses, first_traversed}
+use Rattle.machine.specs.flow_paths.Names.{waiting}
 use Rattle.machine.specs.Evaluate.{AsValue, AsView}
 use Rattle.machine.specs.Typed.{Sort}
 use Rattle.soundness.specs.TypedLaws.Fine.{Agree, counts, lists, Has}

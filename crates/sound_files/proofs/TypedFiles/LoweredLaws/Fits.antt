@@ -1,8 +1,8 @@
 -- Expressions whose names have room and whose literals are words.
 use Rattle.std.proofs.Common.{inl, inr, refl, ℕ, ◌≤◌, List}
-use Rattle.spark_base.specs.Lists.{Has}
-use Rattle.spark_base.proofs.Lists.{Has-append_left, Has-append_right}
-use Rattle.typed_tree.specs.Trees.{TypedTree, Literal, Name, Component, Designated, Element, Parens, Image, Unary, Binary, Short, IsNull, Aggregate, Alike, New, More}
+use Rattle.machine.specs.spark_base.Lists.{Has}
+use Rattle.soundness.proofs.Lists.{Has-append_left, Has-append_right}
+use Rattle.machine.specs.typed_tree.Trees.{TypedTree, Literal, Name, Component, Designated, Element, Parens, Image, Unary, Binary, Short, IsNull, Aggregate, Alike, New, More}
 use Rattle.settled_types.specs.OrderLaws.ScopeLaws.Code.{roots}
 use Rattle.run_codes.specs.Lowered.{Site, max_position}
 use Rattle.sound_files.specs.TypedFiles.LoweredLaws.Lowers.{HasRoom, literals}

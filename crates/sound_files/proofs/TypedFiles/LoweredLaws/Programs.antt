@@ -1,11 +1,11 @@
 -- Programs are lowered.
 use Rattle.std.proofs.Common.{◌≡◌, refl, subst, inl, inr, ℕ, ◌+◌, ◌<◌, Bool, true, false, List, [], ◌∷◌, map, length, Some, None}
 use Rattle.std.specs.Prelude.{nat_lt}
-use Rattle.spark_base.specs.Lists.{Has}
-use Rattle.flow_paths.specs.Instructions.{Instruction, Declare}
-use Rattle.flow_paths.specs.Objects.{Typing}
-use Rattle.flow_paths.specs.Points.{FlowPoint}
-use Rattle.flow_paths.specs.Laid.{FlowSub, FlowProgram, flow_typing}
+use Rattle.machine.specs.spark_base.Lists.{Has}
+use Rattle.machine.specs.flow_paths.Instructions.{Instruction, Declare}
+use Rattle.machine.specs.flow_paths.Objects.{Typing}
+use Rattle.machine.specs.flow_paths.Points.{FlowPoint}
+use Rattle.machine.specs.flow_paths.Laid.{FlowSub, FlowProgram, flow_typing}
 use Rattle.machine.specs.States.{sub_of, stack_words}
 use Rattle.settled_types.specs.OrderLaws.ScopeLaws.Order.{named_in}
 use Rattle.soundness.specs.TypedLaws.TypedSteps.Steps.{IsTypedStep, IsCounted, AreCounted}

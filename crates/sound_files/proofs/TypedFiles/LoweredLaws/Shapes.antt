@@ -2,9 +2,9 @@
 use Rattle.std.proofs.Common.{◌≡◌, refl, sym, ap, ◌∙◌, subst, inl, inr, ℕ, Bool, true, false, ◌&&◌, ◌||◌, List, [], ◌∷◌, length, nat_eq, nat_lt, Some, arith, lt-ltb}
 use Rattle.std.proofs.lemmas.Bool.{eq-eqb, false≢true}
 use Rattle.std.specs.Prelude.{◌<◌}
-use Rattle.type_definitions.specs.declared.table.Shape.{Shape}
-use Rattle.type_definitions.specs.declared.table.Shape.TheVariants as shape
-use Rattle.type_definitions.specs.Types.{Table, meant_type, shape_of, components_of, view_of, is_owning, is_scalar}
+use Rattle.machine.specs.type_definitions.declared.table.Shape.{Shape}
+use Rattle.machine.specs.type_definitions.declared.table.Shape.TheVariants as shape
+use Rattle.machine.specs.type_definitions.Types.{Table, meant_type, shape_of, components_of, view_of, is_owning, is_scalar}
 use Rattle.machine.specs.Typed.{Sort, Whole, Position, Pointer, sorts, sorts_of, same_kind, same_designated, same_sort, same_sorts, is_pointer, points_to, is_record, is_array, field_count}
 use Rattle.soundness.specs.TypedLaws.Fine.{Agree, counts, lists}
 use Rattle.soundness.proofs.TypedLaws.Agreeing.{Owns, one_shape, either_left, scalar_owns}

@@ -2,19 +2,19 @@
 use Rattle.std.proofs.Common.{◌≡◌, refl, sym, ap, ◌∙◌, subst, inl, inr, ℕ, zero, suc, ◌+◌, ◌<◌, Bool, true, false, not, List, [], ◌∷◌, ◌++◌, length, lt-ltb, arith, Option, Some, None, if◌then◌else◌}
 use Rattle.std.specs.Prelude.{option_and_then, slice_get, nat_lt, is_some, ℤ}
 use Rattle.std.proofs.lemmas.Bool.{false≢true, true≢false}
-use Rattle.spark_base.specs.Lists.{Has}
-use Rattle.spark_base.proofs.Lists.{Has-append_left, Has-append_right}
-use Rattle.typed_tree.specs.declared.node.ShortCircuit.{ShortCircuit}
-use Rattle.type_definitions.specs.declared.table.Shape.{Shape}
-use Rattle.type_definitions.specs.declared.table.Shape.TheVariants as shape
-use Rattle.type_definitions.specs.Types.{Table, shape_of, full, is_scalar}
-use Rattle.type_definitions.specs.Entries.{integer, boolean}
-use Rattle.typed_tree.specs.Trees.{TypedTree, TypedCode, NoMore, More}
-use Rattle.flow_paths.specs.Instructions.{Instruction, Skip, Declare, Assign, Output, Input, Release, Test, Choose, Start, Next, Evaluate, LeaveLoop, Hold, EndScope, Finish, Fall}
-use Rattle.flow_paths.specs.Instructions as instruction
-use Rattle.flow_paths.specs.Objects.{Typing, object_at, sub_at, is_package_object, passings}
-use Rattle.flow_paths.specs.Names.{waiting}
-use Rattle.flow_paths.specs.Points.{FlowPoint}
+use Rattle.machine.specs.spark_base.Lists.{Has}
+use Rattle.soundness.proofs.Lists.{Has-append_left, Has-append_right}
+use Rattle.machine.specs.typed_tree.declared.node.ShortCircuit.{ShortCircuit}
+use Rattle.machine.specs.type_definitions.declared.table.Shape.{Shape}
+use Rattle.machine.specs.type_definitions.declared.table.Shape.TheVariants as shape
+use Rattle.machine.specs.type_definitions.Types.{Table, shape_of, full, is_scalar}
+use Rattle.machine.specs.type_definitions.Entries.{integer, boolean}
+use Rattle.machine.specs.typed_tree.Trees.{TypedTree, TypedCode, NoMore, More}
+use Rattle.machine.specs.flow_paths.Instructions.{Instruction, Skip, Declare, Assign, Output, Input, Release, Test, Choose, Start, Next, Evaluate, LeaveLoop, Hold, EndScope, Finish, Fall}
+use Rattle.machine.specs.flow_paths.Instructions as instruction
+use Rattle.machine.specs.flow_paths.Objects.{Typing, object_at, sub_at, is_package_object, passings}
+use Rattle.machine.specs.flow_paths.Names.{waiting}
+use Rattle.machine.specs.flow_paths.Points.{FlowPoint}
 use Rattle.machine.specs.Evaluate.{AsValue}
 use Rattle.machine.specs.Typed.{Sort, Whole, Position, successors}
 use Rattle.settled_types.specs.OrderLaws.ScopeLaws.Code.{roots}

@@ -1,10 +1,10 @@
 -- The values that a point takes, in the order in which its expressions take them.
 use Rattle.std.proofs.Common.{◌≡◌, refl, ap, ◌∙◌, subst, ℕ, suc, ◌+◌, Bool, true, false, List, [], ◌∷◌, ◌++◌, length, length-append, arith, Some, if◌then◌else◌}
 use Rattle.std.specs.Prelude.{slice_get}
-use Rattle.type_definitions.specs.Entries.{boolean}
-use Rattle.typed_tree.specs.Trees.{TypedTree, Name, Component, Designated, Element, Parens, Image, Unary, Binary, Short, IsNull, Aggregate, Alike, New, More}
-use Rattle.flow_paths.specs.Objects.{Typing}
-use Rattle.flow_paths.specs.Names.{has_call, waiting}
+use Rattle.machine.specs.type_definitions.Entries.{boolean}
+use Rattle.machine.specs.typed_tree.Trees.{TypedTree, Name, Component, Designated, Element, Parens, Image, Unary, Binary, Short, IsNull, Aggregate, Alike, New, More}
+use Rattle.machine.specs.flow_paths.Objects.{Typing}
+use Rattle.machine.specs.flow_paths.Names.{has_call, waiting}
 use Rattle.run_codes.specs.Programs.{taken_types}
 
 -- Types stand in a list from the k-th on.

@@ -1,23 +1,23 @@
 -- The law: parsed files that break no rule of names and of types are lowered.
 use Rattle.std.proofs.Common.{◌≡◌, ◌≤◌, ℕ, true, List, ◌∷◌, map, ℤ, pos, negsuc, None, arith}
-use Rattle.spark_base.specs.Lists.{Has}
+use Rattle.machine.specs.spark_base.Lists.{Has}
 use Rattle.ada_lexer.specs.Tokens.{Cut}
 use Rattle.ada_tree.specs.declared.unit.SourceUnit.{SourceUnit}
 use Rattle.name_events.specs.Outline.{source_events}
 use Rattle.name_events.specs.Identified.{identified}
 use Rattle.name_events.specs.Faults.{name_fault}
-use Rattle.resolved_tree.specs.Trees.{Code, Program}
-use Rattle.type_definitions.specs.declared.table.Entry.{Entry}
-use Rattle.type_definitions.specs.declared.table.Entry.TheVariants as entry
-use Rattle.type_definitions.specs.declared.table.Shape.{Shape}
-use Rattle.type_definitions.specs.declared.table.Shape.TheVariants as shape
-use Rattle.type_definitions.specs.Types.{shape_of, view_of}
-use Rattle.type_definitions.specs.Entries.{entry_of}
-use Rattle.type_definitions.specs.Gathered.{natural_of}
-use Rattle.type_definitions.specs.Whole.{known_of, type_fault}
+use Rattle.machine.specs.resolved_tree.Trees.{Code, Program}
+use Rattle.machine.specs.type_definitions.declared.table.Entry.{Entry}
+use Rattle.machine.specs.type_definitions.declared.table.Entry.TheVariants as entry
+use Rattle.machine.specs.type_definitions.declared.table.Shape.{Shape}
+use Rattle.machine.specs.type_definitions.declared.table.Shape.TheVariants as shape
+use Rattle.machine.specs.type_definitions.Types.{shape_of, view_of}
+use Rattle.machine.specs.type_definitions.Entries.{entry_of}
+use Rattle.machine.specs.type_definitions.Gathered.{natural_of}
+use Rattle.machine.specs.type_definitions.Whole.{known_of, type_fault}
 use Rattle.typing_steps.specs.Programs.{program_of}
-use Rattle.typed_tree.specs.Programs.{TypedSub, DeclaredObject, program_objects, elaboration, over_units, subs_in, typed_program}
-use Rattle.run_values.specs.Arithmetic.{is_integer}
+use Rattle.machine.specs.typed_tree.Programs.{TypedSub, DeclaredObject, program_objects, elaboration, over_units, subs_in, typed_program}
+use Rattle.soundness.specs.run_values.Arithmetic.{is_integer}
 use Rattle.settled_types.specs.Orderly.{at_start}
 use Rattle.settled_types.specs.OrderlyFiles.Apart.{AreApart}
 use Rattle.settled_types.specs.OrderlyFiles.Ended.{AllEnded}

@@ -1,11 +1,11 @@
 -- The law: a text that has no fault of typing and is meant is lowered.
 use Rattle.std.proofs.Common.{◌≡◌, ℕ, ◌≤◌, true, map, None}
-use Rattle.spark_base.specs.Lists.{Has}
-use Rattle.resolved_tree.specs.Trees.{Program}
-use Rattle.type_definitions.specs.Whole.{known_of, type_fault}
-use Rattle.typed_tree.specs.Programs.{TypedSub, program_objects, elaboration, over_units, subs_in}
-use Rattle.flow_paths.specs.Objects.{is_package_object}
-use Rattle.flow_paths.specs.Laid.{typing_of}
+use Rattle.machine.specs.spark_base.Lists.{Has}
+use Rattle.machine.specs.resolved_tree.Trees.{Program}
+use Rattle.machine.specs.type_definitions.Whole.{known_of, type_fault}
+use Rattle.machine.specs.typed_tree.Programs.{TypedSub, program_objects, elaboration, over_units, subs_in}
+use Rattle.machine.specs.flow_paths.Objects.{is_package_object}
+use Rattle.machine.specs.flow_paths.Laid.{typing_of}
 use Rattle.settled_types.specs.OrderLaws.ScopeLaws.Code.{Once, body_seen}
 use Rattle.settled_types.proofs.OrderLaws.Parts.{number_of}
 use Rattle.settled_types.specs.GatheredLaws.Made.{IsMade}

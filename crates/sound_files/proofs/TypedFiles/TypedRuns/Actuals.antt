@@ -2,41 +2,41 @@
 use Rattle.std.proofs.Common.{◌≡◌, ◌⊎◌, refl, sym, ap, ◌∙◌, subst, inl, inr, ℕ, zero, suc, ◌+◌, ◌<◌, Bool, true, false, not, ◌||◌, List, [], ◌∷◌, ◌++◌, map, length, get_or, nat_eq, Some, None, if◌then◌else◌, arith}
 use Rattle.std.specs.Prelude.{is_some}
 use Rattle.std.proofs.lemmas.Bool.{eqb-true, false≢true, true≢false}
-use Rattle.spark_base.specs.declared.position.Pos.{Pos}
-use Rattle.place_names.specs.declared.act.Mode.{Mode}
-use Rattle.place_names.specs.declared.act.Mode.TheVariants as mode
-use Rattle.resolved_tree.specs.Trees.{Tree, Named, Argument, position}
-use Rattle.type_definitions.specs.declared.table.FormalInfo.{FormalInfo}
-use Rattle.type_definitions.specs.declared.table.Shape.TheVariants as shape
-use Rattle.type_definitions.specs.declared.judgement.Fault.{Fault}
-use Rattle.type_definitions.specs.declared.judgement.Own.TheVariants as own
-use Rattle.type_definitions.specs.declared.judgement.Reading.{Reading}
-use Rattle.type_definitions.specs.declared.judgement.Reading.TheVariants as reading
-use Rattle.type_definitions.specs.declared.judgement.Where.TheVariants as stands
-use Rattle.type_definitions.specs.declared.judgement.Role.TheVariants as role
-use Rattle.type_definitions.specs.Types.{Table, base, full, is_untyped, shape_of}
-use Rattle.type_definitions.specs.Entries.{entry_of, same_word}
-use Rattle.type_definitions.specs.Faults.{demand}
-use Rattle.type_definitions.specs.Names.{Context, reading_of}
-use Rattle.type_definitions.specs.Names.{seen}
-use Rattle.type_definitions.specs.Expressions.{own_of, around, inside, reading_faults, call_arguments, around_variable, around_formal, around_traversed, traversed_anonymous, traversed_name, traversed_value, traverses, is_of, is_variable, is_in, suits, allowed, is_access, is_anonymous, is_object_name, designated, arguments, formal, no_formal, formal_names, profile_of, associates, all_by_position, each_once, count_of, given_names}
-use Rattle.typed_tree.specs.Trees.{TypedTree, Name, typed_list}
-use Rattle.typed_tree.specs.Trees as typed
-use Rattle.typed_tree.specs.declared.object.Object.{Object}
-use Rattle.typed_tree.specs.Expressions.{Site, sub_number, typed_expression, typed_values, named_value, arguments_given}
-use Rattle.flow_paths.specs.Objects.{Typing, Signature, object_at, sub_at}
-use Rattle.flow_paths.specs.Objects as flow
-use Rattle.type_definitions.specs.Types.{is_owning}
+use Rattle.machine.specs.spark_base.declared.position.Pos.{Pos}
+use Rattle.machine.specs.place_names.declared.act.Mode.{Mode}
+use Rattle.machine.specs.place_names.declared.act.Mode.TheVariants as mode
+use Rattle.machine.specs.resolved_tree.Trees.{Tree, Named, Argument, position}
+use Rattle.machine.specs.type_definitions.declared.table.FormalInfo.{FormalInfo}
+use Rattle.machine.specs.type_definitions.declared.table.Shape.TheVariants as shape
+use Rattle.machine.specs.type_definitions.declared.judgement.Fault.{Fault}
+use Rattle.machine.specs.type_definitions.declared.judgement.Own.TheVariants as own
+use Rattle.machine.specs.type_definitions.declared.judgement.Reading.{Reading}
+use Rattle.machine.specs.type_definitions.declared.judgement.Reading.TheVariants as reading
+use Rattle.machine.specs.type_definitions.declared.judgement.Where.TheVariants as stands
+use Rattle.machine.specs.type_definitions.declared.judgement.Role.TheVariants as role
+use Rattle.machine.specs.type_definitions.Types.{Table, base, full, is_untyped, shape_of}
+use Rattle.machine.specs.type_definitions.Entries.{entry_of, same_word}
+use Rattle.machine.specs.type_definitions.Faults.{demand}
+use Rattle.machine.specs.type_definitions.Names.{Context, reading_of}
+use Rattle.machine.specs.type_definitions.Names.{seen}
+use Rattle.machine.specs.type_definitions.Expressions.{own_of, around, inside, reading_faults, call_arguments, around_variable, around_formal, around_traversed, traversed_anonymous, traversed_name, traversed_value, traverses, is_of, is_variable, is_in, suits, allowed, is_access, is_anonymous, is_object_name, designated, arguments, formal, no_formal, formal_names, profile_of, associates, all_by_position, each_once, count_of, given_names}
+use Rattle.machine.specs.typed_tree.Trees.{TypedTree, Name, typed_list}
+use Rattle.machine.specs.typed_tree.Trees as typed
+use Rattle.machine.specs.typed_tree.declared.object.Object.{Object}
+use Rattle.machine.specs.typed_tree.Expressions.{Site, sub_number, typed_expression, typed_values, named_value, arguments_given}
+use Rattle.machine.specs.flow_paths.Objects.{Typing, Signature, object_at, sub_at}
+use Rattle.machine.specs.flow_paths.Objects as flow
+use Rattle.machine.specs.type_definitions.Types.{is_owning}
 use Rattle.soundness.specs.TypedLaws.Fine.{Agree, Has, Laws, IsMeant, AreArguments}
 use Rattle.soundness.proofs.TypedLaws.Agreeing.{of_known, holds, nil_left, nil_right, and_left, and_right, agree_trans, agree_access, agree_owns, retyped, is_free}
 use Rattle.soundness.proofs.TypedLaws.Assigns as assigns
 use Rattle.soundness.proofs.TypedLaws.Main.{has_type}
-use Rattle.type_definitions.specs.declared.table.Shape.{Shape}
-use Rattle.typed_tree.specs.Trees.{NoMore}
-use Rattle.type_definitions.specs.Types.{is_same, view_of}
-use Rattle.type_definitions.specs.Faults.{K6}
-use Rattle.type_definitions.specs.declared.judgement.Own.{Own}
-use Rattle.type_definitions.specs.Expressions.{own_owning, reading_access, traversed_fits, behind, way_of, is_object}
+use Rattle.machine.specs.type_definitions.declared.table.Shape.{Shape}
+use Rattle.machine.specs.typed_tree.Trees.{NoMore}
+use Rattle.machine.specs.type_definitions.Types.{is_same, view_of}
+use Rattle.machine.specs.type_definitions.Faults.{K6}
+use Rattle.machine.specs.type_definitions.declared.judgement.Own.{Own}
+use Rattle.machine.specs.type_definitions.Expressions.{own_owning, reading_access, traversed_fits, behind, way_of, is_object}
 use Rattle.machine.specs.Typed.{same_kind}
 use Rattle.soundness.proofs.TypedLaws.Steps.{seen_access}
 use Rattle.soundness.proofs.TypedLaws.Named.{named_has}

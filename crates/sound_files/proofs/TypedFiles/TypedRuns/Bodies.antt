@@ -1,18 +1,18 @@
 -- Code that breaks no sentence: its expressions have the types of their places.
 use Rattle.std.proofs.Common.{◌≡◌, ℕ, ◌+◌, Bool, true, ◌&&◌, List, [], ◌∷◌, ◌++◌, Option}
 use Rattle.std.specs.List.{AllByRecursion}
-use Rattle.resolved_tree.specs.Trees.{NoMore, More, Code, Objects, Numbers, Skip, Assign, Call, Exit, Return, If, Branch, Case, When, Loop, While, For, Block, code_items}
-use Rattle.type_definitions.specs.Entries.{boolean}
-use Rattle.type_definitions.specs.Faults.{demand}
-use Rattle.type_definitions.specs.Expressions.{faults, own_type}
-use Rattle.type_definitions.specs.declared.judgement.Where.TheVariants as stands
-use Rattle.type_definitions.specs.Statements.{target_faults, range_faults, type_or_integer, is_one_choice, coverage}
-use Rattle.type_definitions.specs.Declarations.{code_faults, alternatives_faults, alternative_faults, choices_faults, selector_faults, choices_of, is_last}
-use Rattle.typed_tree.specs.Trees.{TypedCode, typed_code_list}
-use Rattle.typed_tree.specs.declared.object.Object.{Object}
-use Rattle.typed_tree.specs.Expressions.{Site}
-use Rattle.typed_tree.specs.Statements.{scope_count, statements, typed_body}
-use Rattle.flow_paths.specs.Objects.{Typing, Signature}
+use Rattle.machine.specs.resolved_tree.Trees.{NoMore, More, Code, Objects, Numbers, Skip, Assign, Call, Exit, Return, If, Branch, Case, When, Loop, While, For, Block, code_items}
+use Rattle.machine.specs.type_definitions.Entries.{boolean}
+use Rattle.machine.specs.type_definitions.Faults.{demand}
+use Rattle.machine.specs.type_definitions.Expressions.{faults, own_type}
+use Rattle.machine.specs.type_definitions.declared.judgement.Where.TheVariants as stands
+use Rattle.machine.specs.type_definitions.Statements.{target_faults, range_faults, type_or_integer, is_one_choice, coverage}
+use Rattle.machine.specs.type_definitions.Declarations.{code_faults, alternatives_faults, alternative_faults, choices_faults, selector_faults, choices_of, is_last}
+use Rattle.machine.specs.typed_tree.Trees.{TypedCode, typed_code_list}
+use Rattle.machine.specs.typed_tree.declared.object.Object.{Object}
+use Rattle.machine.specs.typed_tree.Expressions.{Site}
+use Rattle.machine.specs.typed_tree.Statements.{scope_count, statements, typed_body}
+use Rattle.machine.specs.flow_paths.Objects.{Typing, Signature}
 use Rattle.soundness.specs.TypedLaws.Fine.{Laws}
 use Rattle.soundness.proofs.TypedLaws.Agreeing.{nil_left, nil_right}
 use Rattle.soundness.specs.TypedLaws.TypedPoints.Meant.{IsMeantCode, AreAlternatives}

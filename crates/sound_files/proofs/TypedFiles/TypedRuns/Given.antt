@@ -3,22 +3,22 @@
 use Rattle.std.proofs.Common.{◌≡◌, refl, sym, ap, ◌∙◌, subst, ◌⊎◌, inl, inr, ℕ, zero, suc, Bool, true, false, ◌||◌, List, [], ◌∷◌, get_or, Option, Some, None}
 use Rattle.std.proofs.lemmas.Bool.{false≢true, true≢false}
 use Rattle.std.specs.Prelude.{is_some}
-use Rattle.spark_base.specs.Lists.{Has as Holds}
-use Rattle.spark_base.specs.declared.position.Pos.{Pos}
-use Rattle.place_names.specs.declared.act.Mode.{Mode}
-use Rattle.place_names.specs.declared.act.Mode.TheVariants as mode
-use Rattle.resolved_tree.specs.declared.operator.UnaryOperator.{UnaryOperator}
-use Rattle.resolved_tree.specs.declared.operator.UnaryOperator.TheVariants as unary
-use Rattle.type_definitions.specs.declared.table.Component.{Component as Part}
-use Rattle.type_definitions.specs.declared.table.Shape.{Shape}
-use Rattle.type_definitions.specs.declared.table.Shape.TheVariants as shape
-use Rattle.type_definitions.specs.Types.{Table, shape_of, components_of, view_of, full, is_owning, is_scalar, owns_of, any_owns}
-use Rattle.type_definitions.specs.Entries.{integer, boolean}
-use Rattle.type_definitions.specs.Expressions.{unary_type}
-use Rattle.typed_tree.specs.Trees.{TypedTree, Number, Literal, Text, Name, Component, Designated, Element, EndOfFile, Image, Parens, Unary, Binary, Short, IsNull, Aggregate, Alike, New, NoMore, More, TypedCode, Declare, Assign, Output, Input, Release, If, Branch, Case, When, Loop, While, For, Exit, Return, Block}
-use Rattle.typed_tree.specs.Trees as typed
-use Rattle.flow_paths.specs.Names.{has_call}
-use Rattle.flow_paths.specs.Objects.{Typing, object_at, sub_at, traverses, is_anonymous, view_of as object_view}
+use Rattle.machine.specs.spark_base.Lists.{Has as Holds}
+use Rattle.machine.specs.spark_base.declared.position.Pos.{Pos}
+use Rattle.machine.specs.place_names.declared.act.Mode.{Mode}
+use Rattle.machine.specs.place_names.declared.act.Mode.TheVariants as mode
+use Rattle.machine.specs.resolved_tree.declared.operator.UnaryOperator.{UnaryOperator}
+use Rattle.machine.specs.resolved_tree.declared.operator.UnaryOperator.TheVariants as unary
+use Rattle.machine.specs.type_definitions.declared.table.Component.{Component as Part}
+use Rattle.machine.specs.type_definitions.declared.table.Shape.{Shape}
+use Rattle.machine.specs.type_definitions.declared.table.Shape.TheVariants as shape
+use Rattle.machine.specs.type_definitions.Types.{Table, shape_of, components_of, view_of, full, is_owning, is_scalar, owns_of, any_owns}
+use Rattle.machine.specs.type_definitions.Entries.{integer, boolean}
+use Rattle.machine.specs.type_definitions.Expressions.{unary_type}
+use Rattle.machine.specs.typed_tree.Trees.{TypedTree, Number, Literal, Text, Name, Component, Designated, Element, EndOfFile, Image, Parens, Unary, Binary, Short, IsNull, Aggregate, Alike, New, NoMore, More, TypedCode, Declare, Assign, Output, Input, Release, If, Branch, Case, When, Loop, While, For, Exit, Return, Block}
+use Rattle.machine.specs.typed_tree.Trees as typed
+use Rattle.machine.specs.flow_paths.Names.{has_call}
+use Rattle.machine.specs.flow_paths.Objects.{Typing, object_at, sub_at, traverses, is_anonymous, view_of as object_view}
 use Rattle.machine.specs.Evaluate.{part_type}
 use Rattle.machine.specs.Typed.{is_record, is_array, same_kind}
 use Rattle.machine.specs.Words.{component_type, element_type, element_of, no_component}

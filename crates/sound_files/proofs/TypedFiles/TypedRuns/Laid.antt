@@ -1,14 +1,14 @@
 -- The points of a program whose code has expressions of the types of their places.
 use Rattle.std.proofs.Common.{◌≡◌, refl, sym, ap, subst, inl, inr, ℕ, ◌+◌, List, [], ◌∷◌, map, length}
 use Rattle.std.specs.List.{AllByRecursion}
-use Rattle.spark_base.specs.Lists.{Has}
-use Rattle.spark_base.proofs.Lists.{Has-map_from}
-use Rattle.type_definitions.specs.Types.{Table}
-use Rattle.typed_tree.specs.Programs.{TypedSub, TypedProgram}
-use Rattle.flow_paths.specs.Objects.{Typing, Signature}
-use Rattle.flow_paths.specs.Points.{NamedPoint, FlowPoint, flow_point}
-use Rattle.flow_paths.specs.Prep.{Setting}
-use Rattle.flow_paths.specs.Laid.{Temporary, NamedSub, FlowSub, signature, typing_of, flow_typing, named_subs, sub_temporaries, numbers_from, unnumbered, all_named, frame_of, kept_roots, sub_facts, number_in, flow_sub, flow_named, flow_program}
+use Rattle.machine.specs.spark_base.Lists.{Has}
+use Rattle.soundness.proofs.Lists.{Has-map_from}
+use Rattle.machine.specs.type_definitions.Types.{Table}
+use Rattle.machine.specs.typed_tree.Programs.{TypedSub, TypedProgram}
+use Rattle.machine.specs.flow_paths.Objects.{Typing, Signature}
+use Rattle.machine.specs.flow_paths.Points.{NamedPoint, FlowPoint, flow_point}
+use Rattle.machine.specs.flow_paths.Prep.{Setting}
+use Rattle.machine.specs.flow_paths.Laid.{Temporary, NamedSub, FlowSub, signature, typing_of, flow_typing, named_subs, sub_temporaries, numbers_from, unnumbered, all_named, frame_of, kept_roots, sub_facts, number_in, flow_sub, flow_named, flow_program}
 use Rattle.sound_files.specs.TypedFiles.TypedRuns.Code.{IsTypedCode, IsTypedUse}
 use Rattle.sound_files.proofs.TypedFiles.TypedRuns.Points.{Typed, sub_typed, elaboration_typed}
 

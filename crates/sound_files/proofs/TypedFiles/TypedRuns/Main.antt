@@ -3,22 +3,22 @@ use Rattle.std.proofs.Common.{◌≡◌, refl, subst, inl, inr, ℕ, ◌+◌, tr
 use Rattle.std.specs.Prelude.{flat_map, is_some}
 use Rattle.std.specs.List.{AllByRecursion}
 use Rattle.std.proofs.lemmas.Bool.{true≢false}
-use Rattle.spark_base.specs.Lists.{Has}
-use Rattle.resolved_tree.specs.Trees.{Code, More, SubBody, Package, PackageBody, Program}
-use Rattle.type_definitions.specs.declared.table.Known.{Known}
-use Rattle.type_definitions.specs.declared.judgement.Fault.{Fault}
-use Rattle.type_definitions.specs.Faults.{first, precedes}
-use Rattle.type_definitions.specs.Gathered.{declared_number, in_subprogram, in_visible, in_hidden}
-use Rattle.type_definitions.specs.Declarations.{code_faults, body_faults, in_body}
-use Rattle.type_definitions.specs.Whole.{TypeFault, outside, unit_faults, main_faults, sentence_faults, type_sizes, decided, fault_known, told, known_of, known_with, type_fault}
-use Rattle.typed_tree.specs.declared.object.Object.{Object}
-use Rattle.typed_tree.specs.Expressions.{Site}
-use Rattle.typed_tree.specs.Statements.{scope_count, statements}
-use Rattle.typed_tree.specs.Programs.{TypedSub, placed, over_units, subs_in, site_of, typed_program}
-use Rattle.typed_tree.specs.Programs as programs
-use Rattle.flow_paths.specs.Objects.{Typing, Signature}
-use Rattle.flow_paths.specs.Points.{FlowPoint}
-use Rattle.flow_paths.specs.Laid.{FlowSub, flow_typing}
+use Rattle.machine.specs.spark_base.Lists.{Has}
+use Rattle.machine.specs.resolved_tree.Trees.{Code, More, SubBody, Package, PackageBody, Program}
+use Rattle.machine.specs.type_definitions.declared.table.Known.{Known}
+use Rattle.machine.specs.type_definitions.declared.judgement.Fault.{Fault}
+use Rattle.machine.specs.type_definitions.Faults.{first, precedes}
+use Rattle.machine.specs.type_definitions.Gathered.{declared_number, in_subprogram, in_visible, in_hidden}
+use Rattle.machine.specs.type_definitions.Declarations.{code_faults, body_faults, in_body}
+use Rattle.machine.specs.type_definitions.Whole.{TypeFault, outside, unit_faults, main_faults, sentence_faults, type_sizes, decided, fault_known, told, known_of, known_with, type_fault}
+use Rattle.machine.specs.typed_tree.declared.object.Object.{Object}
+use Rattle.machine.specs.typed_tree.Expressions.{Site}
+use Rattle.machine.specs.typed_tree.Statements.{scope_count, statements}
+use Rattle.machine.specs.typed_tree.Programs.{TypedSub, placed, over_units, subs_in, site_of, typed_program}
+use Rattle.machine.specs.typed_tree.Programs as programs
+use Rattle.machine.specs.flow_paths.Objects.{Typing, Signature}
+use Rattle.machine.specs.flow_paths.Points.{FlowPoint}
+use Rattle.machine.specs.flow_paths.Laid.{FlowSub, flow_typing}
 use Rattle.soundness.specs.TypedLaws.Fine.{Laws}
 use Rattle.soundness.proofs.TypedLaws.Agreeing.{nil_left, nil_right}
 use Rattle.soundness.specs.TypedLaws.TypedPoints.Meant.{AreMeantBodies, AreMeantObjects}

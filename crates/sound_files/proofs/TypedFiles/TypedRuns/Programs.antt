@@ -3,12 +3,12 @@
 use Rattle.std.proofs.Common.{◌≡◌, refl, ap, ◌∙◌, subst, inl, inr, Bool, true, ◌&&◌, ℕ, List, [], ◌∷◌, length, nat_eq, Option, None}
 use Rattle.std.specs.List.{list_all}
 use Rattle.std.proofs.lemmas.Bool.{eq-eqb}
-use Rattle.spark_base.specs.Lists.{Has}
-use Rattle.type_definitions.specs.Types.{shape_of}
-use Rattle.type_definitions.specs.Entries.{integer, boolean}
-use Rattle.flow_paths.specs.Objects.{Typing}
-use Rattle.flow_paths.specs.Points.{FlowPoint}
-use Rattle.flow_paths.specs.Laid.{FlowSub, FlowProgram, flow_typing}
+use Rattle.machine.specs.spark_base.Lists.{Has}
+use Rattle.machine.specs.type_definitions.Types.{shape_of}
+use Rattle.machine.specs.type_definitions.Entries.{integer, boolean}
+use Rattle.machine.specs.flow_paths.Objects.{Typing}
+use Rattle.machine.specs.flow_paths.Points.{FlowPoint}
+use Rattle.machine.specs.flow_paths.Laid.{FlowSub, FlowProgram, flow_typing}
 use Rattle.machine.specs.Typed.{successors, is_typed_instruction, is_typed_point, is_typed_sub, is_elaboration, are_typed_subs, is_typed}
 use Rattle.soundness.specs.TypedLaws.Fine.{counts, lists}
 use Rattle.soundness.proofs.TypedLaws.Agreeing.{Owns}

@@ -1,31 +1,31 @@
 -- Ranges of loops.
 use Rattle.std.proofs.Common.{◌≡◌, refl, sym, ap, ◌∙◌, subst, inl, inr, ℕ, ℤ, Bool, true, false, not, ◌&&◌, ◌||◌, List, []}
 use Rattle.std.proofs.lemmas.Bool.{false≢true}
-use Rattle.resolved_tree.specs.declared.node.Mark.{Mark}
-use Rattle.resolved_tree.specs.Trees.{Tree, Named, position, Code, Bounds, Marked, Constrained, RangeOf}
-use Rattle.type_definitions.specs.declared.table.Entry.{Entry}
-use Rattle.type_definitions.specs.declared.table.Entry.TheVariants as entry
-use Rattle.type_definitions.specs.declared.table.Known.{Known}
-use Rattle.type_definitions.specs.declared.table.Shape.{Shape}
-use Rattle.type_definitions.specs.declared.table.Shape.TheVariants as shape
-use Rattle.type_definitions.specs.declared.judgement.View.{View}
-use Rattle.type_definitions.specs.declared.judgement.View.TheVariants as view
-use Rattle.type_definitions.specs.declared.judgement.Reading.{Reading}
-use Rattle.type_definitions.specs.declared.judgement.Reading.TheVariants as reading
-use Rattle.type_definitions.specs.declared.judgement.Where.TheVariants as stands
-use Rattle.type_definitions.specs.Types.{Table, base, full, shape_of, view_of, is_scalar, is_untyped}
-use Rattle.type_definitions.specs.Entries.{entry_of, integer, marked, denotes_type, is_complete, is_type}
-use Rattle.type_definitions.specs.Faults.{demand}
-use Rattle.type_definitions.specs.Names.{Context, seen, reading_of}
-use Rattle.type_definitions.specs.Expressions.{faults, inside, own_type, scalar_own, behind, way_of}
-use Rattle.type_definitions.specs.Statements.{range_faults, range_of_faults, ranged, no_suffix, is_array, scalar_mark, type_or_integer}
-use Rattle.type_definitions.specs.Gathered.{declared_number}
-use Rattle.typed_tree.specs.Trees.{TypedTree, TypedCode}
-use Rattle.typed_tree.specs.Trees as typed
-use Rattle.typed_tree.specs.declared.object.Object.{Object}
-use Rattle.typed_tree.specs.Expressions.{Site, object_number}
-use Rattle.typed_tree.specs.Statements.{typed_range, range_of, bounds_seen, array_seen}
-use Rattle.flow_paths.specs.Objects.{Typing, Signature, object_at}
+use Rattle.machine.specs.resolved_tree.declared.node.Mark.{Mark}
+use Rattle.machine.specs.resolved_tree.Trees.{Tree, Named, position, Code, Bounds, Marked, Constrained, RangeOf}
+use Rattle.machine.specs.type_definitions.declared.table.Entry.{Entry}
+use Rattle.machine.specs.type_definitions.declared.table.Entry.TheVariants as entry
+use Rattle.machine.specs.type_definitions.declared.table.Known.{Known}
+use Rattle.machine.specs.type_definitions.declared.table.Shape.{Shape}
+use Rattle.machine.specs.type_definitions.declared.table.Shape.TheVariants as shape
+use Rattle.machine.specs.type_definitions.declared.judgement.View.{View}
+use Rattle.machine.specs.type_definitions.declared.judgement.View.TheVariants as view
+use Rattle.machine.specs.type_definitions.declared.judgement.Reading.{Reading}
+use Rattle.machine.specs.type_definitions.declared.judgement.Reading.TheVariants as reading
+use Rattle.machine.specs.type_definitions.declared.judgement.Where.TheVariants as stands
+use Rattle.machine.specs.type_definitions.Types.{Table, base, full, shape_of, view_of, is_scalar, is_untyped}
+use Rattle.machine.specs.type_definitions.Entries.{entry_of, integer, marked, denotes_type, is_complete, is_type}
+use Rattle.machine.specs.type_definitions.Faults.{demand}
+use Rattle.machine.specs.type_definitions.Names.{Context, seen, reading_of}
+use Rattle.machine.specs.type_definitions.Expressions.{faults, inside, own_type, scalar_own, behind, way_of}
+use Rattle.machine.specs.type_definitions.Statements.{range_faults, range_of_faults, ranged, no_suffix, is_array, scalar_mark, type_or_integer}
+use Rattle.machine.specs.type_definitions.Gathered.{declared_number}
+use Rattle.machine.specs.typed_tree.Trees.{TypedTree, TypedCode}
+use Rattle.machine.specs.typed_tree.Trees as typed
+use Rattle.machine.specs.typed_tree.declared.object.Object.{Object}
+use Rattle.machine.specs.typed_tree.Expressions.{Site, object_number}
+use Rattle.machine.specs.typed_tree.Statements.{typed_range, range_of, bounds_seen, array_seen}
+use Rattle.machine.specs.flow_paths.Objects.{Typing, Signature, object_at}
 use Rattle.soundness.specs.TypedLaws.Fine.{Agree, Has, Laws, counts, lists}
 use Rattle.machine.specs.Typed.{same_kind}
 use Rattle.soundness.proofs.TypedLaws.Agreeing.{of_known, holds, and_left, nil_left, nil_right, one_shape, retyped, is_free}

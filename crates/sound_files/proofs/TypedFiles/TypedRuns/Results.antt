@@ -3,16 +3,16 @@
 use Rattle.std.proofs.Common.{◌≡◌, refl, sym, subst, inl, inr, ℕ, Bool, true, false, List, ◌∷◌, Some, None, ap}
 use Rattle.std.proofs.lemmas.Bool.{false≢true}
 use Rattle.std.specs.Prelude.{is_some}
-use Rattle.spark_base.specs.Lists.{Has}
-use Rattle.resolved_tree.specs.Trees.{Program}
-use Rattle.type_definitions.specs.declared.table.Shape.TheVariants as shape
-use Rattle.type_definitions.specs.Types.{shape_of, full, is_scalar}
-use Rattle.type_definitions.specs.Entries.{integer, boolean}
-use Rattle.type_definitions.specs.Whole.{known_of}
-use Rattle.typed_tree.specs.Programs.{TypedSub}
-use Rattle.flow_paths.specs.Objects.{Typing, sub_at, traverses, is_anonymous, view_of}
-use Rattle.flow_paths.specs.Laid.{typing_of, flow_typing}
-use Rattle.flow_paths.specs.Views.{traversed_of}
+use Rattle.machine.specs.spark_base.Lists.{Has}
+use Rattle.machine.specs.resolved_tree.Trees.{Program}
+use Rattle.machine.specs.type_definitions.declared.table.Shape.TheVariants as shape
+use Rattle.machine.specs.type_definitions.Types.{shape_of, full, is_scalar}
+use Rattle.machine.specs.type_definitions.Entries.{integer, boolean}
+use Rattle.machine.specs.type_definitions.Whole.{known_of}
+use Rattle.machine.specs.typed_tree.Programs.{TypedSub}
+use Rattle.machine.specs.flow_paths.Objects.{Typing, sub_at, traverses, is_anonymous, view_of}
+use Rattle.machine.specs.flow_paths.Laid.{typing_of, flow_typing}
+use Rattle.machine.specs.flow_paths.Views.{traversed_of}
 use Rattle.machine.specs.Words.{component_type, element_type}
 use Rattle.soundness.proofs.TypedLaws.Agreeing.{Owns}
 use Rattle.settled_types.specs.OrderLaws.ScopeLaws.Code.{Once}

@@ -1,22 +1,22 @@
 -- Expressions and sources at their places, and what stands within them.
 use Rattle.std.proofs.Common.{◌≡◌, refl, sym, ◌&&◌, Some, subst, inl, ℕ, Bool, true, false, List, [], ◌++◌, if◌then◌else◌, ap}
 use Rattle.std.proofs.lemmas.Bool.{false≢true}
-use Rattle.resolved_tree.specs.Trees.{Tree, Null, Named, position}
-use Rattle.type_definitions.specs.declared.judgement.Fault.{Fault}
-use Rattle.type_definitions.specs.declared.judgement.Where.{Where}
-use Rattle.type_definitions.specs.declared.judgement.Where.TheVariants as stands
-use Rattle.type_definitions.specs.Types.{Table, full, is_scalar}
-use Rattle.type_definitions.specs.declared.judgement.Reading.{Reading}
-use Rattle.type_definitions.specs.declared.judgement.Reading.TheVariants as reading
-use Rattle.type_definitions.specs.Entries.{integer, entry_of}
-use Rattle.type_definitions.specs.Faults.{demand, K6}
-use Rattle.type_definitions.specs.Names.{Context, reading_of}
-use Rattle.type_definitions.specs.Expressions.{around, faults, inside, is_anonymous, own_of, profile_of, is_traversal_call}
-use Rattle.type_definitions.specs.Statements.{designates, is_source, keeps_constant, source_name, source_fits, is_name, return_source, formal_source, source_faults}
-use Rattle.typed_tree.specs.declared.object.Object.{Object}
-use Rattle.typed_tree.specs.Trees.{TypedTree}
-use Rattle.typed_tree.specs.Expressions.{Site, typed_expression, typed_name, typed_steps, typed_actuals, typed_imaged, called_function, object_type}
-use Rattle.flow_paths.specs.Objects.{Typing, Signature}
+use Rattle.machine.specs.resolved_tree.Trees.{Tree, Null, Named, position}
+use Rattle.machine.specs.type_definitions.declared.judgement.Fault.{Fault}
+use Rattle.machine.specs.type_definitions.declared.judgement.Where.{Where}
+use Rattle.machine.specs.type_definitions.declared.judgement.Where.TheVariants as stands
+use Rattle.machine.specs.type_definitions.Types.{Table, full, is_scalar}
+use Rattle.machine.specs.type_definitions.declared.judgement.Reading.{Reading}
+use Rattle.machine.specs.type_definitions.declared.judgement.Reading.TheVariants as reading
+use Rattle.machine.specs.type_definitions.Entries.{integer, entry_of}
+use Rattle.machine.specs.type_definitions.Faults.{demand, K6}
+use Rattle.machine.specs.type_definitions.Names.{Context, reading_of}
+use Rattle.machine.specs.type_definitions.Expressions.{around, faults, inside, is_anonymous, own_of, profile_of, is_traversal_call}
+use Rattle.machine.specs.type_definitions.Statements.{designates, is_source, keeps_constant, source_name, source_fits, is_name, return_source, formal_source, source_faults}
+use Rattle.machine.specs.typed_tree.declared.object.Object.{Object}
+use Rattle.machine.specs.typed_tree.Trees.{TypedTree}
+use Rattle.machine.specs.typed_tree.Expressions.{Site, typed_expression, typed_name, typed_steps, typed_actuals, typed_imaged, called_function, object_type}
+use Rattle.machine.specs.flow_paths.Objects.{Typing, Signature}
 use Rattle.soundness.specs.TypedLaws.Fine.{Has, Laws, IsMeant}
 use Rattle.soundness.proofs.TypedLaws.Agreeing.{holds, nil_left, nil_right, and_left, is_free}
 use Rattle.soundness.proofs.TypedLaws.TypedPoints.Flags.{flagged, at_flags, typed_same, meant_same}

@@ -3,29 +3,29 @@ use Rattle.std.proofs.Common.{◌≡◌, refl, sym, ap, ◌∙◌, subst, inl, �
 use Rattle.std.specs.Prelude.{is_none, is_some}
 use Rattle.std.specs.List.{AllByRecursion}
 use Rattle.std.proofs.lemmas.Bool.{false≢true}
-use Rattle.spark_base.specs.declared.position.Pos.{Pos}
-use Rattle.resolved_tree.specs.declared.node.Mark.{Mark}
-use Rattle.resolved_tree.specs.Trees.{Tree, Named, NoMore, More, position, Code, Plain, Anonymous, code_items}
-use Rattle.type_definitions.specs.declared.table.Entry.{Entry}
-use Rattle.type_definitions.specs.declared.table.Known.{Known}
-use Rattle.type_definitions.specs.declared.judgement.Reading.{Reading}
-use Rattle.type_definitions.specs.declared.judgement.Reading.TheVariants as reading
-use Rattle.type_definitions.specs.declared.judgement.Where.TheVariants as stands
-use Rattle.type_definitions.specs.Types.{Table, full, view_of, is_owning, is_scalar}
-use Rattle.type_definitions.specs.Entries.{entry_of, integer, boolean, marked, denotes_type, is_complete}
-use Rattle.type_definitions.specs.Faults.{demand, K2, K3}
-use Rattle.type_definitions.specs.Names.{Context, reading_of, is_end}
-use Rattle.type_definitions.specs.Expressions.{faults, inside, behind, way_of, reading_faults, given_names, call_arguments, is_variable, own_type, mark_faults, is_anonymous, profile_of, result_type, scalar_own}
-use Rattle.type_definitions.specs.Statements.{is_object_entry, return_source, returned, sub_profile, condition, target_faults, assign_faults, formal_source, source_faults, is_formal, target_reading}
-use Rattle.type_definitions.specs.Gathered.{indicated, is_anonymous_indication, declared_number}
-use Rattle.type_definitions.specs.Declarations.{indication_faults, is_single, first_pos, first_number, in_package, starting, has_one, initial_faults, objects_faults, object_faults, bound_faults, selector_faults}
-use Rattle.typed_tree.specs.Trees.{TypedTree, TypedCode}
-use Rattle.typed_tree.specs.Trees as typed
-use Rattle.typed_tree.specs.declared.object.Object.{Object}
-use Rattle.typed_tree.specs.Expressions.{Site, typed_expression, typed_optional}
-use Rattle.typed_tree.specs.Statements.{type_read, typed_object, returned_type}
-use Rattle.flow_paths.specs.Objects.{Typing, Signature}
-use Rattle.flow_paths.specs.Objects as flow
+use Rattle.machine.specs.spark_base.declared.position.Pos.{Pos}
+use Rattle.machine.specs.resolved_tree.declared.node.Mark.{Mark}
+use Rattle.machine.specs.resolved_tree.Trees.{Tree, Named, NoMore, More, position, Code, Plain, Anonymous, code_items}
+use Rattle.machine.specs.type_definitions.declared.table.Entry.{Entry}
+use Rattle.machine.specs.type_definitions.declared.table.Known.{Known}
+use Rattle.machine.specs.type_definitions.declared.judgement.Reading.{Reading}
+use Rattle.machine.specs.type_definitions.declared.judgement.Reading.TheVariants as reading
+use Rattle.machine.specs.type_definitions.declared.judgement.Where.TheVariants as stands
+use Rattle.machine.specs.type_definitions.Types.{Table, full, view_of, is_owning, is_scalar}
+use Rattle.machine.specs.type_definitions.Entries.{entry_of, integer, boolean, marked, denotes_type, is_complete}
+use Rattle.machine.specs.type_definitions.Faults.{demand, K2, K3}
+use Rattle.machine.specs.type_definitions.Names.{Context, reading_of, is_end}
+use Rattle.machine.specs.type_definitions.Expressions.{faults, inside, behind, way_of, reading_faults, given_names, call_arguments, is_variable, own_type, mark_faults, is_anonymous, profile_of, result_type, scalar_own}
+use Rattle.machine.specs.type_definitions.Statements.{is_object_entry, return_source, returned, sub_profile, condition, target_faults, assign_faults, formal_source, source_faults, is_formal, target_reading}
+use Rattle.machine.specs.type_definitions.Gathered.{indicated, is_anonymous_indication, declared_number}
+use Rattle.machine.specs.type_definitions.Declarations.{indication_faults, is_single, first_pos, first_number, in_package, starting, has_one, initial_faults, objects_faults, object_faults, bound_faults, selector_faults}
+use Rattle.machine.specs.typed_tree.Trees.{TypedTree, TypedCode}
+use Rattle.machine.specs.typed_tree.Trees as typed
+use Rattle.machine.specs.typed_tree.declared.object.Object.{Object}
+use Rattle.machine.specs.typed_tree.Expressions.{Site, typed_expression, typed_optional}
+use Rattle.machine.specs.typed_tree.Statements.{type_read, typed_object, returned_type}
+use Rattle.machine.specs.flow_paths.Objects.{Typing, Signature}
+use Rattle.machine.specs.flow_paths.Objects as flow
 use Rattle.soundness.specs.TypedLaws.Fine.{Has, Laws, IsMeant}
 use Rattle.soundness.proofs.TypedLaws.Agreeing.{holds, and_left, nil_left, nil_right, is_free}
 use Rattle.soundness.proofs.TypedLaws.Assigns as assigns

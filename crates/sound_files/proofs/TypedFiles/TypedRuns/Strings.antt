@@ -1,22 +1,22 @@
 -- String expressions.
 use Rattle.std.proofs.Common.{◌≡◌, refl, sym, ap, ◌∙◌, subst, ℕ, true, false, List, [], ◌++◌, None}
 use Rattle.std.proofs.lemmas.Bool.{false≢true}
-use Rattle.resolved_tree.specs.declared.operator.Operator.{Operator}
-use Rattle.resolved_tree.specs.declared.operator.Operator.TheVariants as operator
-use Rattle.resolved_tree.specs.Trees.{Tree, Number, Text, Named, Parens, Unary, Binary, Applied, Attr, Argument, NoMore, More, position}
-use Rattle.type_definitions.specs.declared.table.Entry.TheVariants as entry
-use Rattle.type_definitions.specs.declared.judgement.Own.TheVariants as own
-use Rattle.type_definitions.specs.declared.judgement.Reading.{Reading}
-use Rattle.type_definitions.specs.declared.judgement.Reading.TheVariants as reading
-use Rattle.type_definitions.specs.declared.judgement.Role.TheVariants as role
-use Rattle.type_definitions.specs.declared.judgement.Where.TheVariants as stands
-use Rattle.type_definitions.specs.Types.{base, full, is_scalar}
-use Rattle.type_definitions.specs.Entries.{entry_of}
-use Rattle.type_definitions.specs.Names.{Context, is_index, reading_of}
-use Rattle.type_definitions.specs.Expressions.{own_of, own_type, inside, around, around_string, around_operands, around_parens, arguments, behind, within_suffix, way_of, reading_faults, given_names, call_arguments, operand_type, is_null, is_string, is_join}
-use Rattle.typed_tree.specs.declared.object.Object.{Object}
-use Rattle.typed_tree.specs.Expressions.{Site, typed_expression, typed_name, typed_imaged, typed_first, typed_steps, typed_actuals, object_type, called_function, operands}
-use Rattle.flow_paths.specs.Objects.{Typing, Signature}
+use Rattle.machine.specs.resolved_tree.declared.operator.Operator.{Operator}
+use Rattle.machine.specs.resolved_tree.declared.operator.Operator.TheVariants as operator
+use Rattle.machine.specs.resolved_tree.Trees.{Tree, Number, Text, Named, Parens, Unary, Binary, Applied, Attr, Argument, NoMore, More, position}
+use Rattle.machine.specs.type_definitions.declared.table.Entry.TheVariants as entry
+use Rattle.machine.specs.type_definitions.declared.judgement.Own.TheVariants as own
+use Rattle.machine.specs.type_definitions.declared.judgement.Reading.{Reading}
+use Rattle.machine.specs.type_definitions.declared.judgement.Reading.TheVariants as reading
+use Rattle.machine.specs.type_definitions.declared.judgement.Role.TheVariants as role
+use Rattle.machine.specs.type_definitions.declared.judgement.Where.TheVariants as stands
+use Rattle.machine.specs.type_definitions.Types.{base, full, is_scalar}
+use Rattle.machine.specs.type_definitions.Entries.{entry_of}
+use Rattle.machine.specs.type_definitions.Names.{Context, is_index, reading_of}
+use Rattle.machine.specs.type_definitions.Expressions.{own_of, own_type, inside, around, around_string, around_operands, around_parens, arguments, behind, within_suffix, way_of, reading_faults, given_names, call_arguments, operand_type, is_null, is_string, is_join}
+use Rattle.machine.specs.typed_tree.declared.object.Object.{Object}
+use Rattle.machine.specs.typed_tree.Expressions.{Site, typed_expression, typed_name, typed_imaged, typed_first, typed_steps, typed_actuals, object_type, called_function, operands}
+use Rattle.machine.specs.flow_paths.Objects.{Typing, Signature}
 use Rattle.soundness.specs.TypedLaws.Fine.{Has, Laws, IsMeant, AreSuffixes, IsSuffix, AreArguments}
 use Rattle.soundness.proofs.TypedLaws.Agreeing.{nil_left, nil_right}
 use Rattle.soundness.proofs.TypedLaws.Main.{has_type}

@@ -1,27 +1,27 @@
 -- Sources that are looked at, for places of anonymous access types.
 use Rattle.std.proofs.Common.{◌≡◌, refl, sym, ap, ◌∙◌, subst, ◌⊎◌, inl, inr, ℕ, Bool, true, false, ◌&&◌, ◌||◌, List, [], if◌then◌else◌}
 use Rattle.std.proofs.lemmas.Bool.{false≢true}
-use Rattle.spark_base.specs.declared.position.Pos.{Pos}
-use Rattle.resolved_tree.specs.declared.operator.UnaryOperator.{UnaryOperator}
-use Rattle.resolved_tree.specs.declared.operator.UnaryOperator.TheVariants as unary
-use Rattle.resolved_tree.specs.Trees.{Tree, Number, Text, Null, Named, Parens, Unary, Binary, Aggregate, Others, New, position}
-use Rattle.type_definitions.specs.declared.table.Shape.{Shape}
-use Rattle.type_definitions.specs.declared.table.Shape.TheVariants as shape
-use Rattle.type_definitions.specs.declared.judgement.Own.{Own}
-use Rattle.type_definitions.specs.declared.judgement.Own.TheVariants as own
-use Rattle.type_definitions.specs.declared.judgement.Reading.{Reading}
-use Rattle.type_definitions.specs.declared.judgement.Reading.TheVariants as reading
-use Rattle.type_definitions.specs.Types.{Table, base, full, is_owning, is_same, is_untyped, owns_of, shape_of, view_of}
-use Rattle.type_definitions.specs.Entries.{entry_of, integer, boolean}
-use Rattle.type_definitions.specs.Faults.{demand, K6}
-use Rattle.type_definitions.specs.Names.{Context, seen, reading_of}
-use Rattle.type_definitions.specs.Expressions.{own_of, own_type, around_parens, inside, reading_faults, given_names, call_arguments, is_access, is_anonymous, designated, unary_type, is_arithmetic}
-use Rattle.type_definitions.specs.Statements.{designates, source_fits, source_name, source_faults, return_source, formal_source, is_name}
-use Rattle.typed_tree.specs.Trees.{TypedTree}
-use Rattle.typed_tree.specs.Trees as typed
-use Rattle.typed_tree.specs.declared.object.Object.{Object}
-use Rattle.typed_tree.specs.Expressions.{Site, typed_expression, typed_name, typed_steps, typed_actuals, typed_imaged, called_function, object_type}
-use Rattle.flow_paths.specs.Objects.{Typing, Signature}
+use Rattle.machine.specs.spark_base.declared.position.Pos.{Pos}
+use Rattle.machine.specs.resolved_tree.declared.operator.UnaryOperator.{UnaryOperator}
+use Rattle.machine.specs.resolved_tree.declared.operator.UnaryOperator.TheVariants as unary
+use Rattle.machine.specs.resolved_tree.Trees.{Tree, Number, Text, Null, Named, Parens, Unary, Binary, Aggregate, Others, New, position}
+use Rattle.machine.specs.type_definitions.declared.table.Shape.{Shape}
+use Rattle.machine.specs.type_definitions.declared.table.Shape.TheVariants as shape
+use Rattle.machine.specs.type_definitions.declared.judgement.Own.{Own}
+use Rattle.machine.specs.type_definitions.declared.judgement.Own.TheVariants as own
+use Rattle.machine.specs.type_definitions.declared.judgement.Reading.{Reading}
+use Rattle.machine.specs.type_definitions.declared.judgement.Reading.TheVariants as reading
+use Rattle.machine.specs.type_definitions.Types.{Table, base, full, is_owning, is_same, is_untyped, owns_of, shape_of, view_of}
+use Rattle.machine.specs.type_definitions.Entries.{entry_of, integer, boolean}
+use Rattle.machine.specs.type_definitions.Faults.{demand, K6}
+use Rattle.machine.specs.type_definitions.Names.{Context, seen, reading_of}
+use Rattle.machine.specs.type_definitions.Expressions.{own_of, own_type, around_parens, inside, reading_faults, given_names, call_arguments, is_access, is_anonymous, designated, unary_type, is_arithmetic}
+use Rattle.machine.specs.type_definitions.Statements.{designates, source_fits, source_name, source_faults, return_source, formal_source, is_name}
+use Rattle.machine.specs.typed_tree.Trees.{TypedTree}
+use Rattle.machine.specs.typed_tree.Trees as typed
+use Rattle.machine.specs.typed_tree.declared.object.Object.{Object}
+use Rattle.machine.specs.typed_tree.Expressions.{Site, typed_expression, typed_name, typed_steps, typed_actuals, typed_imaged, called_function, object_type}
+use Rattle.machine.specs.flow_paths.Objects.{Typing, Signature}
 use Rattle.machine.specs.Typed.{is_record, is_array, same_kind}
 use Rattle.soundness.specs.TypedLaws.Fine.{Agree, Has, Laws, IsMeant, counts, lists}
 use Rattle.soundness.proofs.TypedLaws.Agreeing.{of_known, holds, nil_left, nil_right, and_left, and_right, agree_trans, agree_counts, agree_lists, one_shape, is_free}

@@ -3,43 +3,43 @@ use Rattle.std.proofs.Common.{◌≡◌, refl, sym, ap, ◌∙◌, subst, inl, i
 use Rattle.std.specs.Prelude.{is_some}
 use Rattle.std.specs.List.{AllByRecursion}
 use Rattle.std.proofs.lemmas.Bool.{false≢true, true≢false}
-use Rattle.spark_base.specs.declared.position.Pos.{Pos}
-use Rattle.resolved_tree.specs.declared.node.Mark.{Mark}
-use Rattle.resolved_tree.specs.declared.operator.Operator.{Operator}
-use Rattle.resolved_tree.specs.declared.operator.Operator.TheVariants as operator
-use Rattle.resolved_tree.specs.declared.operator.UnaryOperator.{UnaryOperator}
-use Rattle.resolved_tree.specs.declared.operator.UnaryOperator.TheVariants as unary
-use Rattle.resolved_tree.specs.Trees.{Tree, Number, Text, Null, Named, Parens, Unary, Binary, Aggregate, Others, New, Selected, All, Applied, Argument, NoMore, More, position}
-use Rattle.type_definitions.specs.declared.table.Component.{Component}
-use Rattle.type_definitions.specs.declared.table.Entry.{Entry}
-use Rattle.type_definitions.specs.declared.table.Entry.TheVariants as entry
-use Rattle.type_definitions.specs.declared.table.FormalInfo.{FormalInfo}
-use Rattle.type_definitions.specs.declared.table.Known.{Known}
-use Rattle.type_definitions.specs.declared.table.ObjectInfo.{ObjectInfo}
-use Rattle.type_definitions.specs.declared.table.Profile.{Profile}
-use Rattle.type_definitions.specs.declared.judgement.View.{View}
-use Rattle.type_definitions.specs.declared.judgement.View.TheVariants as view
-use Rattle.type_definitions.specs.declared.judgement.Own.{Own}
-use Rattle.type_definitions.specs.declared.judgement.Own.TheVariants as own
-use Rattle.type_definitions.specs.declared.judgement.Reading.{Reading}
-use Rattle.type_definitions.specs.declared.judgement.Reading.TheVariants as reading
-use Rattle.type_definitions.specs.declared.judgement.Role.{Role}
-use Rattle.type_definitions.specs.declared.judgement.Role.TheVariants as role
-use Rattle.type_definitions.specs.declared.judgement.Where.TheVariants as stands
-use Rattle.type_definitions.specs.declared.judgement.Way.TheVariants as way
-use Rattle.type_definitions.specs.Types.{Table, base, full, fields, is_scalar}
-use Rattle.type_definitions.specs.Gathered.{natural_of}
-use Rattle.type_definitions.specs.Entries.{entry_of, integer, boolean, denotes_type, marked, is_complete, same_word}
-use Rattle.type_definitions.specs.Faults.{demand}
-use Rattle.type_definitions.specs.Names.{Context, seen, step, through, reading_of}
-use Rattle.type_definitions.specs.Statics.{is_alone}
-use Rattle.type_definitions.specs.Expressions.{Given, own_type, operator_gives, is_join, around, around_role, around_parens, around_operands, traversal_faults, is_traversal, is_anonymous, result_type, formal, around_formal, inside, arguments, behind, within_suffix, way_of, next_type, reading_faults, given_names, call_arguments, role_type, part, part_type, meant, by_name, no_component, no_formal, parts_role, repeated_type, element_type, mark_faults, is_null, operand_type, unary_type, is_arithmetic, profile_of, formal_names, associates, all_by_position, aggregates, repeats, is_loose}
-use Rattle.typed_tree.specs.Trees.{TypedTree, typed_list}
-use Rattle.typed_tree.specs.Trees as typed
-use Rattle.typed_tree.specs.declared.object.Object.{Object}
-use Rattle.typed_tree.specs.Expressions.{Site, number, value_of_type, sub_number, typed_expression, typed_name, typed_steps, typed_step, typed_actuals, typed_imaged, typed_first, typed_values, object_type, called_function, operands, designating, element, component_number, named_value, arranged, role_names}
-use Rattle.flow_paths.specs.Objects.{Typing, Signature, sub_at}
-use Rattle.flow_paths.specs.Objects as flow
+use Rattle.machine.specs.spark_base.declared.position.Pos.{Pos}
+use Rattle.machine.specs.resolved_tree.declared.node.Mark.{Mark}
+use Rattle.machine.specs.resolved_tree.declared.operator.Operator.{Operator}
+use Rattle.machine.specs.resolved_tree.declared.operator.Operator.TheVariants as operator
+use Rattle.machine.specs.resolved_tree.declared.operator.UnaryOperator.{UnaryOperator}
+use Rattle.machine.specs.resolved_tree.declared.operator.UnaryOperator.TheVariants as unary
+use Rattle.machine.specs.resolved_tree.Trees.{Tree, Number, Text, Null, Named, Parens, Unary, Binary, Aggregate, Others, New, Selected, All, Applied, Argument, NoMore, More, position}
+use Rattle.machine.specs.type_definitions.declared.table.Component.{Component}
+use Rattle.machine.specs.type_definitions.declared.table.Entry.{Entry}
+use Rattle.machine.specs.type_definitions.declared.table.Entry.TheVariants as entry
+use Rattle.machine.specs.type_definitions.declared.table.FormalInfo.{FormalInfo}
+use Rattle.machine.specs.type_definitions.declared.table.Known.{Known}
+use Rattle.machine.specs.type_definitions.declared.table.ObjectInfo.{ObjectInfo}
+use Rattle.machine.specs.type_definitions.declared.table.Profile.{Profile}
+use Rattle.machine.specs.type_definitions.declared.judgement.View.{View}
+use Rattle.machine.specs.type_definitions.declared.judgement.View.TheVariants as view
+use Rattle.machine.specs.type_definitions.declared.judgement.Own.{Own}
+use Rattle.machine.specs.type_definitions.declared.judgement.Own.TheVariants as own
+use Rattle.machine.specs.type_definitions.declared.judgement.Reading.{Reading}
+use Rattle.machine.specs.type_definitions.declared.judgement.Reading.TheVariants as reading
+use Rattle.machine.specs.type_definitions.declared.judgement.Role.{Role}
+use Rattle.machine.specs.type_definitions.declared.judgement.Role.TheVariants as role
+use Rattle.machine.specs.type_definitions.declared.judgement.Where.TheVariants as stands
+use Rattle.machine.specs.type_definitions.declared.judgement.Way.TheVariants as way
+use Rattle.machine.specs.type_definitions.Types.{Table, base, full, fields, is_scalar}
+use Rattle.machine.specs.type_definitions.Gathered.{natural_of}
+use Rattle.machine.specs.type_definitions.Entries.{entry_of, integer, boolean, denotes_type, marked, is_complete, same_word}
+use Rattle.machine.specs.type_definitions.Faults.{demand}
+use Rattle.machine.specs.type_definitions.Names.{Context, seen, step, through, reading_of}
+use Rattle.machine.specs.type_definitions.Statics.{is_alone}
+use Rattle.machine.specs.type_definitions.Expressions.{Given, own_type, operator_gives, is_join, around, around_role, around_parens, around_operands, traversal_faults, is_traversal, is_anonymous, result_type, formal, around_formal, inside, arguments, behind, within_suffix, way_of, next_type, reading_faults, given_names, call_arguments, role_type, part, part_type, meant, by_name, no_component, no_formal, parts_role, repeated_type, element_type, mark_faults, is_null, operand_type, unary_type, is_arithmetic, profile_of, formal_names, associates, all_by_position, aggregates, repeats, is_loose}
+use Rattle.machine.specs.typed_tree.Trees.{TypedTree, typed_list}
+use Rattle.machine.specs.typed_tree.Trees as typed
+use Rattle.machine.specs.typed_tree.declared.object.Object.{Object}
+use Rattle.machine.specs.typed_tree.Expressions.{Site, number, value_of_type, sub_number, typed_expression, typed_name, typed_steps, typed_step, typed_actuals, typed_imaged, typed_first, typed_values, object_type, called_function, operands, designating, element, component_number, named_value, arranged, role_names}
+use Rattle.machine.specs.flow_paths.Objects.{Typing, Signature, sub_at}
+use Rattle.machine.specs.flow_paths.Objects as flow
 use Rattle.soundness.specs.TypedLaws.Fine.{Has, Laws, IsMeant, AreSuffixes, IsSuffix, AreArguments}
 use Rattle.soundness.proofs.TypedLaws.Agreeing.{holds, nil_left, nil_right, and_left, not_true}
 use Rattle.soundness.proofs.TypedLaws.Readings.{call_of, place_along}

@@ -1,18 +1,18 @@
 -- A step whose expressions have the types of their places is typed as the machine says it.
 use Rattle.std.proofs.Common.{◌≡◌, refl, sym, ap, ◌∙◌, subst, ◌⊎◌, inl, inr, ℕ, Bool, true, false, ◌&&◌, ◌||◌, List, [], ◌∷◌, nat_eq, Option, Some, None}
 use Rattle.std.proofs.lemmas.Bool.{eq-eqb, false≢true}
-use Rattle.spark_base.specs.declared.position.Pos.{Pos}
-use Rattle.place_names.specs.declared.act.Mode.{Mode}
-use Rattle.place_names.specs.declared.act.Mode.TheVariants as mode
-use Rattle.type_definitions.specs.declared.table.Shape.{Shape}
-use Rattle.type_definitions.specs.declared.table.Shape.TheVariants as shape
-use Rattle.type_definitions.specs.Types.{Table, full, is_scalar, view_of, shape_of, meant_type}
-use Rattle.type_definitions.specs.Entries.{integer, boolean}
-use Rattle.typed_tree.specs.Trees.{TypedTree, Name, Text, Parens, Image, Binary, NoMore, More}
-use Rattle.typed_tree.specs.Trees as typed
-use Rattle.flow_paths.specs.Instructions.{Instruction, Skip, Declare, Assign, Output, Input, Release, Test, Choose, Start, Next, Evaluate, LeaveLoop, Hold, EndScope, Finish, Fall}
-use Rattle.flow_paths.specs.Instructions as instruction
-use Rattle.flow_paths.specs.Objects.{Typing, object_at, sub_at}
+use Rattle.machine.specs.spark_base.declared.position.Pos.{Pos}
+use Rattle.machine.specs.place_names.declared.act.Mode.{Mode}
+use Rattle.machine.specs.place_names.declared.act.Mode.TheVariants as mode
+use Rattle.machine.specs.type_definitions.declared.table.Shape.{Shape}
+use Rattle.machine.specs.type_definitions.declared.table.Shape.TheVariants as shape
+use Rattle.machine.specs.type_definitions.Types.{Table, full, is_scalar, view_of, shape_of, meant_type}
+use Rattle.machine.specs.type_definitions.Entries.{integer, boolean}
+use Rattle.machine.specs.typed_tree.Trees.{TypedTree, Name, Text, Parens, Image, Binary, NoMore, More}
+use Rattle.machine.specs.typed_tree.Trees as typed
+use Rattle.machine.specs.flow_paths.Instructions.{Instruction, Skip, Declare, Assign, Output, Input, Release, Test, Choose, Start, Next, Evaluate, LeaveLoop, Hold, EndScope, Finish, Fall}
+use Rattle.machine.specs.flow_paths.Instructions as instruction
+use Rattle.machine.specs.flow_paths.Objects.{Typing, object_at, sub_at}
 use Rattle.machine.specs.Typed.{Sort, Whole, Position, Pointer, sorts, sorts_of, sorts_at, same_designated, same_sorts, is_whole, is_position, is_pointer, sorts_of_result, gives, leads, given_first, is_text, is_place, named_type, actuals_given, texts_given, is_typed_instruction}
 use Rattle.soundness.specs.TypedLaws.Fine.{Agree, Has, counts, lists}
 use Rattle.soundness.specs.TypedLaws.Fine as fine

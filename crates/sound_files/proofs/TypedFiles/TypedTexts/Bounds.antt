@@ -2,26 +2,26 @@
 use Rattle.std.proofs.Common.{◌≡◌, ◌≤◌, inl, inr, refl, sym, subst, arith, ℕ, zero, suc, ◌-◌, ◌+◌, Bool, true, false, List, [], ◌∷◌, ◌++◌, length, set, get_or, replicate, ℤ, pos, negsuc, Option, Some, None, if◌then◌else◌}
 use Rattle.std.specs.Prelude.{slice_get, not, ◌||◌}
 use Rattle.std.proofs.lemmas.Bool.{leb-true}
-use Rattle.spark_base.specs.Lists.{Has}
-use Rattle.resolved_tree.specs.Trees.{More, Code, Tree, Bounds, Marked, Constrained, Anonymous, Enumeration, Record, Array, Access, Incomplete, Private, TypeDecl, Subtype, ConstrainedSubtype, Objects, Numbers, Instance, Formals, Front, SubDecl, SubBody, Package, PackageBody, If, Branch, Case, When, Loop, While, For, Block, Program}
-use Rattle.run_values.specs.Arithmetic.{is_integer}
-use Rattle.type_definitions.specs.declared.table.Info.{Info}
-use Rattle.type_definitions.specs.declared.table.InitialValue.{InitialValue}
-use Rattle.type_definitions.specs.declared.table.Shape.{Shape}
-use Rattle.type_definitions.specs.declared.table.Shape.TheVariants as shape
-use Rattle.type_definitions.specs.declared.table.Entry.{Entry}
-use Rattle.type_definitions.specs.declared.table.Entry.TheVariants as entry
-use Rattle.type_definitions.specs.declared.table.Known.{Known}
-use Rattle.type_definitions.specs.declared.table.Kind.TheVariants as kind
-use Rattle.type_definitions.specs.declared.judgement.View.{View}
-use Rattle.type_definitions.specs.declared.judgement.View.TheVariants as view
-use Rattle.type_definitions.specs.Types.{Table, info, info_found, shape_found, shape_of, meant_type, view_of, base, full, is_scalar, is_untyped, no_type}
-use Rattle.type_definitions.specs.Entries.{entry_of, marked, integer}
-use Rattle.type_definitions.specs.Names.{Context}
-use Rattle.type_definitions.specs.Statics.{value, value_as}
-use Rattle.type_definitions.specs.Statements.{known_value}
-use Rattle.type_definitions.specs.Whole.{predefined_types, predefined_entries, at_first, outside, gather_units, known_from, known_of}
-use Rattle.type_definitions.specs.Gathered.{gather, each, declared_number, declared_pos, with_entry, with_info, with_type, own_info, texts, natural_of, indicated, with_indication, awaited_info, defined, is_asked, are_static_bounds, bound_pair, whole_bounds, array_bounds, with_literals, with_definition, full_info, constrained_shape, subtype_info, meant_by, with_object, object_info, constant_value, with_number, number_info, initial_value, plain_object, with_formal, with_formal_group, with_formals, with_result, with_front, with_body_front, profile, is_subprogram, front_number, parameter_type, in_subprogram, in_visible, in_hidden, instance_type}
+use Rattle.machine.specs.spark_base.Lists.{Has}
+use Rattle.machine.specs.resolved_tree.Trees.{More, Code, Tree, Bounds, Marked, Constrained, Anonymous, Enumeration, Record, Array, Access, Incomplete, Private, TypeDecl, Subtype, ConstrainedSubtype, Objects, Numbers, Instance, Formals, Front, SubDecl, SubBody, Package, PackageBody, If, Branch, Case, When, Loop, While, For, Block, Program}
+use Rattle.soundness.specs.run_values.Arithmetic.{is_integer}
+use Rattle.machine.specs.type_definitions.declared.table.Info.{Info}
+use Rattle.machine.specs.type_definitions.declared.table.InitialValue.{InitialValue}
+use Rattle.machine.specs.type_definitions.declared.table.Shape.{Shape}
+use Rattle.machine.specs.type_definitions.declared.table.Shape.TheVariants as shape
+use Rattle.machine.specs.type_definitions.declared.table.Entry.{Entry}
+use Rattle.machine.specs.type_definitions.declared.table.Entry.TheVariants as entry
+use Rattle.machine.specs.type_definitions.declared.table.Known.{Known}
+use Rattle.machine.specs.type_definitions.declared.table.Kind.TheVariants as kind
+use Rattle.machine.specs.type_definitions.declared.judgement.View.{View}
+use Rattle.machine.specs.type_definitions.declared.judgement.View.TheVariants as view
+use Rattle.machine.specs.type_definitions.Types.{Table, info, info_found, shape_found, shape_of, meant_type, view_of, base, full, is_scalar, is_untyped, no_type}
+use Rattle.machine.specs.type_definitions.Entries.{entry_of, marked, integer}
+use Rattle.machine.specs.type_definitions.Names.{Context}
+use Rattle.machine.specs.type_definitions.Statics.{value, value_as}
+use Rattle.machine.specs.type_definitions.Statements.{known_value}
+use Rattle.machine.specs.type_definitions.Whole.{predefined_types, predefined_entries, at_first, outside, gather_units, known_from, known_of}
+use Rattle.machine.specs.type_definitions.Gathered.{gather, each, declared_number, declared_pos, with_entry, with_info, with_type, own_info, texts, natural_of, indicated, with_indication, awaited_info, defined, is_asked, are_static_bounds, bound_pair, whole_bounds, array_bounds, with_literals, with_definition, full_info, constrained_shape, subtype_info, meant_by, with_object, object_info, constant_value, with_number, number_info, initial_value, plain_object, with_formal, with_formal_group, with_formals, with_result, with_front, with_body_front, profile, is_subprogram, front_number, parameter_type, in_subprogram, in_visible, in_hidden, instance_type}
 use Rattle.settled_types.proofs.TableLaws.Statics.{IsWhole, IsWholeEntry, value_whole, known_whole, as_whole}
 use Rattle.sound_files.specs.TypedFiles.TypedRuns.Bounds.{HaveBounds}
 use Rattle.sound_files.specs.TypedFiles.TypedTexts.Literals.{id_count, defined_count, literal_count}

@@ -3,22 +3,22 @@ use Rattle.std.proofs.Common.{◌≡◌, refl, sym, ap, ◌∙◌, subst, inl, i
 use Rattle.std.specs.List.{AllByRecursion}
 use Rattle.std.proofs.lemmas.Bool.{false≢true}
 use Rattle.std.proofs.lemmas.List.{length-map}
-use Rattle.spark_base.specs.Lists.{Has}
-use Rattle.spark_base.proofs.Lists.{Has-map_from}
-use Rattle.resolved_tree.specs.Trees.{Code}
-use Rattle.type_definitions.specs.declared.table.Known.{Known}
-use Rattle.type_definitions.specs.Types.{Table}
-use Rattle.typed_tree.specs.Trees.{TypedCode, typed_code_list}
-use Rattle.typed_tree.specs.Trees as typed
-use Rattle.typed_tree.specs.Expressions.{Site}
-use Rattle.typed_tree.specs.Programs.{TypedSub, TypedProgram, elaborated, elaboration, over_units, program_objects, site_of, subs_in, typed_program}
-use Rattle.flow_paths.specs.Instructions as instruction
-use Rattle.flow_paths.specs.Objects.{Typing}
-use Rattle.flow_paths.specs.Acts.{Frame}
-use Rattle.flow_paths.specs.Points.{Place, PointName, row_at, NamedPoint, point, entry, FlowPoint, flow_point}
-use Rattle.flow_paths.specs.Prep.{Setting, with_held, prep}
-use Rattle.flow_paths.specs.Layout.{Around, with_scope, declared, laid}
-use Rattle.flow_paths.specs.Laid.{NamedSub, FlowSub, typing_of, named_sub, named_subs, sub_temporaries, numbers_from, unnumbered, around_body, elaboration_points, frame_of, kept_roots, sub_facts, number_in, flow_sub, flow_program}
+use Rattle.machine.specs.spark_base.Lists.{Has}
+use Rattle.soundness.proofs.Lists.{Has-map_from}
+use Rattle.machine.specs.resolved_tree.Trees.{Code}
+use Rattle.machine.specs.type_definitions.declared.table.Known.{Known}
+use Rattle.machine.specs.type_definitions.Types.{Table}
+use Rattle.machine.specs.typed_tree.Trees.{TypedCode, typed_code_list}
+use Rattle.machine.specs.typed_tree.Trees as typed
+use Rattle.machine.specs.typed_tree.Expressions.{Site}
+use Rattle.machine.specs.typed_tree.Programs.{TypedSub, TypedProgram, elaborated, elaboration, over_units, program_objects, site_of, subs_in, typed_program}
+use Rattle.machine.specs.flow_paths.Instructions as instruction
+use Rattle.machine.specs.flow_paths.Objects.{Typing}
+use Rattle.machine.specs.flow_paths.Acts.{Frame}
+use Rattle.machine.specs.flow_paths.Points.{Place, PointName, row_at, NamedPoint, point, entry, FlowPoint, flow_point}
+use Rattle.machine.specs.flow_paths.Prep.{Setting, with_held, prep}
+use Rattle.machine.specs.flow_paths.Layout.{Around, with_scope, declared, laid}
+use Rattle.machine.specs.flow_paths.Laid.{NamedSub, FlowSub, typing_of, named_sub, named_subs, sub_temporaries, numbers_from, unnumbered, around_body, elaboration_points, frame_of, kept_roots, sub_facts, number_in, flow_sub, flow_program}
 use Rattle.settled_types.specs.OrderLaws.ScopeLaws.Code.{is_formed}
 use Rattle.settled_types.specs.OrderLaws.ScopeLaws.Order as order
 use Rattle.settled_types.proofs.OrderLaws.ScopeLaws.Successors.{prep_counted, sub_counted}

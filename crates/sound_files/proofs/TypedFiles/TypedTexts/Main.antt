@@ -1,20 +1,20 @@
 -- The law: a text that has no fault of typing and is meant is typed.
 use Rattle.std.proofs.Common.{◌≡◌, ◌≤◌, refl, sym, subst, inl, ℕ, true, false, None}
-use Rattle.resolved_tree.specs.Trees.{Program}
-use Rattle.type_definitions.specs.declared.table.Shape.{Shape}
-use Rattle.type_definitions.specs.declared.table.Shape.TheVariants as shape
-use Rattle.type_definitions.specs.Types.{Table, shape_of, is_untyped, words}
-use Rattle.type_definitions.specs.Entries.{integer, boolean}
-use Rattle.type_definitions.specs.Whole.{known_of, type_fault}
+use Rattle.machine.specs.resolved_tree.Trees.{Program}
+use Rattle.machine.specs.type_definitions.declared.table.Shape.{Shape}
+use Rattle.machine.specs.type_definitions.declared.table.Shape.TheVariants as shape
+use Rattle.machine.specs.type_definitions.Types.{Table, shape_of, is_untyped, words}
+use Rattle.machine.specs.type_definitions.Entries.{integer, boolean}
+use Rattle.machine.specs.type_definitions.Whole.{known_of, type_fault}
 use Rattle.type_sizes.proofs.Limits.{within_limits}
 use Rattle.settled_types.proofs.Main.{finite}
 use Rattle.settled_types.specs.GatheredLaws.Made.{IsMade}
 use Rattle.settled_types.proofs.GatheredLaws.Laws.{program_laws}
 use Rattle.settled_types.proofs.GatheredLaws.Main.{are_types, certain}
-use Rattle.spark_base.specs.Lists.{Has}
-use Rattle.typed_tree.specs.Programs.{TypedSub, typed_program}
-use Rattle.flow_paths.specs.Points.{FlowPoint}
-use Rattle.flow_paths.specs.Laid.{FlowSub, flow_typing, flow_program}
+use Rattle.machine.specs.spark_base.Lists.{Has}
+use Rattle.machine.specs.typed_tree.Programs.{TypedSub, typed_program}
+use Rattle.machine.specs.flow_paths.Points.{FlowPoint}
+use Rattle.machine.specs.flow_paths.Laid.{FlowSub, flow_typing, flow_program}
 use Rattle.machine.specs.Typed.{sorts, sorts_of, is_typed}
 use Rattle.soundness.specs.TypedLaws.Fine.{Laws, counts, lists}
 use Rattle.soundness.specs.TypedLaws.Needed.{AreFine}

@@ -1,10 +1,10 @@
 -- What is asked of a typed program, subprogram by subprogram, so that what its steps name has room.
 use Rattle.std.specs.Prelude.{◌≡◌, ◌<◌, ◌≤◌, ℕ, true, false, List, [], ◌∷◌, length}
-use Rattle.spark_base.specs.Lists.{Has}
-use Rattle.type_definitions.specs.Types.{Table}
-use Rattle.typed_tree.specs.Programs.{TypedSub, TypedProgram}
-use Rattle.flow_paths.specs.Objects.{Typing, is_package_object}
-use Rattle.flow_paths.specs.Laid.{typing_of, declared_within}
+use Rattle.machine.specs.spark_base.Lists.{Has}
+use Rattle.machine.specs.type_definitions.Types.{Table}
+use Rattle.machine.specs.typed_tree.Programs.{TypedSub, TypedProgram}
+use Rattle.machine.specs.flow_paths.Objects.{Typing, is_package_object}
+use Rattle.machine.specs.flow_paths.Laid.{typing_of, declared_within}
 use Rattle.settled_types.specs.OrderLaws.ScopeLaws.Code.{Once, objects_of, body_seen}
 use Rattle.settled_types.specs.OrderLaws.ReadyLaws.InOrder.{declares_only}
 use Rattle.settled_types.specs.OrderLaws.Placed.{is_placed}

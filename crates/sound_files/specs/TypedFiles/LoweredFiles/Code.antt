@@ -1,8 +1,8 @@
 -- The literals in typed code, and the objects that its declarations declare, without the parameters
 -- of its loops.
 use Rattle.std.specs.Prelude.{ℕ, List, [], ◌∷◌, ◌++◌}
-use Rattle.typed_tree.specs.Trees.{TypedCode, Declare, Assign, Output, Input, Release, If, Branch, Case, When, Loop, While, For, Exit, Return, Block, More}
-use Rattle.typed_tree.specs.Trees as typed
+use Rattle.machine.specs.typed_tree.Trees.{TypedCode, Declare, Assign, Output, Input, Release, If, Branch, Case, When, Loop, While, For, Exit, Return, Block, More}
+use Rattle.machine.specs.typed_tree.Trees as typed
 use Rattle.sound_files.specs.TypedFiles.LoweredLaws.Lowers.{literals}
 
 unfoldable pub code_literals : TypedCode → List ℕ

@@ -3,15 +3,15 @@
 -- What a step names has room: it is an object of a package, or one that the subprogram itself has as
 -- a formal or declares. Positions of literals are words. A loop starts before it turns.
 use Rattle.std.specs.Prelude.{◌≡◌, ◌<◌, ◌≤◌, ℕ, Bool, true, false, List, [], ◌∷◌, ◌++◌, length, if◌then◌else◌}
-use Rattle.spark_base.specs.Lists.{Has}
-use Rattle.type_definitions.specs.Types.{Table, shape_of, is_owning, owns_of}
-use Rattle.type_definitions.specs.Entries.{integer, boolean}
-use Rattle.typed_tree.specs.Trees.{TypedTree, Literal, Name, Component, Designated, Element, Image, Parens, Unary, Binary, Short, IsNull, Aggregate, Alike, New, More}
-use Rattle.typed_tree.specs.Trees as typed
-use Rattle.flow_paths.specs.Instructions.{Instruction, Declare, Assign, Call, Output, Input, Release, Test, Choose, Start, Next, Evaluate, LeaveLoop, Hold, EndScope}
-use Rattle.flow_paths.specs.Objects.{is_package_object}
-use Rattle.flow_paths.specs.Points.{FlowPoint}
-use Rattle.flow_paths.specs.Laid.{FlowSub, FlowProgram, flow_typing}
+use Rattle.machine.specs.spark_base.Lists.{Has}
+use Rattle.machine.specs.type_definitions.Types.{Table, shape_of, is_owning, owns_of}
+use Rattle.machine.specs.type_definitions.Entries.{integer, boolean}
+use Rattle.machine.specs.typed_tree.Trees.{TypedTree, Literal, Name, Component, Designated, Element, Image, Parens, Unary, Binary, Short, IsNull, Aggregate, Alike, New, More}
+use Rattle.machine.specs.typed_tree.Trees as typed
+use Rattle.machine.specs.flow_paths.Instructions.{Instruction, Declare, Assign, Call, Output, Input, Release, Test, Choose, Start, Next, Evaluate, LeaveLoop, Hold, EndScope}
+use Rattle.machine.specs.flow_paths.Objects.{is_package_object}
+use Rattle.machine.specs.flow_paths.Points.{FlowPoint}
+use Rattle.machine.specs.flow_paths.Laid.{FlowSub, FlowProgram, flow_typing}
 use Rattle.machine.specs.Typed.{sorts, sorts_of}
 use Rattle.machine.specs.States.{sub_of}
 use Rattle.settled_types.specs.OrderLaws.ScopeLaws.Order.{named_in}

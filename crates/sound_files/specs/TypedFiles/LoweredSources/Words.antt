@@ -1,6 +1,6 @@
 -- Positions that are words.
 use Rattle.std.specs.Prelude.{◌≤◌, ℕ, List}
-use Rattle.spark_base.specs.Lists.{Has}
+use Rattle.machine.specs.spark_base.Lists.{Has}
 use Rattle.run_codes.specs.Lowered.{max_position}
 
 abbrev pub IsWord : ℕ → Type 0

@@ -1,16 +1,16 @@
 -- The formals of subprograms, by their numbers and by their profiles.
 use Rattle.std.specs.Prelude.{◌≡◌, ◌⊎◌, ◌<◌, ◌+◌, ℕ, Bool, true, List, [], ◌∷◌, length, get_or, nat_eq}
 use Rattle.std.specs.List.{position_or_len}
-use Rattle.type_definitions.specs.declared.table.Entry.TheVariants as entry
-use Rattle.type_definitions.specs.declared.table.FormalInfo.{FormalInfo}
-use Rattle.type_definitions.specs.declared.table.Known.{Known}
-use Rattle.type_definitions.specs.declared.table.Shape.TheVariants as shape
-use Rattle.place_names.specs.declared.act.Mode.TheVariants as mode
-use Rattle.type_definitions.specs.Types.{Table, shape_of, full}
-use Rattle.type_definitions.specs.declared.table.Profile.{Profile}
-use Rattle.type_definitions.specs.Entries.{entry_of, same_word}
-use Rattle.type_definitions.specs.Expressions.{is_anonymous, by_name, no_formal, profile_of}
-use Rattle.flow_paths.specs.Objects.{Typing, object_at, sub_at, traverses}
+use Rattle.machine.specs.type_definitions.declared.table.Entry.TheVariants as entry
+use Rattle.machine.specs.type_definitions.declared.table.FormalInfo.{FormalInfo}
+use Rattle.machine.specs.type_definitions.declared.table.Known.{Known}
+use Rattle.machine.specs.type_definitions.declared.table.Shape.TheVariants as shape
+use Rattle.machine.specs.place_names.declared.act.Mode.TheVariants as mode
+use Rattle.machine.specs.type_definitions.Types.{Table, shape_of, full}
+use Rattle.machine.specs.type_definitions.declared.table.Profile.{Profile}
+use Rattle.machine.specs.type_definitions.Entries.{entry_of, same_word}
+use Rattle.machine.specs.type_definitions.Expressions.{is_anonymous, by_name, no_formal, profile_of}
+use Rattle.machine.specs.flow_paths.Objects.{Typing, object_at, sub_at, traverses}
 use Rattle.soundness.specs.TypedLaws.Fine.{Agree}
 use Rattle.soundness.specs.TypedLaws.TypedSteps.Steps.{GoesThrough}
 

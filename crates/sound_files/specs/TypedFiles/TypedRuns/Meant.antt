@@ -1,13 +1,13 @@
 -- What is asked of a text beside that it breaks no sentence. Objects are those of the program as it is laid out, with
 -- its temporaries.
 use Rattle.std.specs.Prelude.{ℕ, map}
-use Rattle.spark_base.specs.Lists.{Has}
-use Rattle.resolved_tree.specs.Trees.{Code, Program}
-use Rattle.type_definitions.specs.Whole.{known_of}
-use Rattle.typed_tree.specs.Expressions.{Site}
-use Rattle.typed_tree.specs.Programs.{TypedProgram, site_of, typed_program}
-use Rattle.flow_paths.specs.Objects.{Typing}
-use Rattle.flow_paths.specs.Laid.{FlowProgram, signature, flow_program}
+use Rattle.machine.specs.spark_base.Lists.{Has}
+use Rattle.machine.specs.resolved_tree.Trees.{Code, Program}
+use Rattle.machine.specs.type_definitions.Whole.{known_of}
+use Rattle.machine.specs.typed_tree.Expressions.{Site}
+use Rattle.machine.specs.typed_tree.Programs.{TypedProgram, site_of, typed_program}
+use Rattle.machine.specs.flow_paths.Objects.{Typing}
+use Rattle.machine.specs.flow_paths.Laid.{FlowProgram, signature, flow_program}
 use Rattle.soundness.specs.TypedLaws.TypedPoints.Meant.{AreMeantBodies, AreMeantObjects}
 use Rattle.sound_files.specs.TypedFiles.TypedRuns.Formals.{AreProfiled}
 use Rattle.sound_files.specs.TypedFiles.TypedRuns.Bounds.{HaveBounds}

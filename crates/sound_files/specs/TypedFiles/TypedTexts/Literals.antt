@@ -1,6 +1,6 @@
 -- How many literals of enumerations code declares.
 use Rattle.std.specs.Prelude.{ℕ, ◌+◌}
-use Rattle.resolved_tree.specs.Trees.{More, Code, Enumeration, TypeDecl, SubBody, Package, PackageBody, If, Branch, Case, When, Loop, While, For, Block}
+use Rattle.machine.specs.resolved_tree.Trees.{More, Code, Enumeration, TypeDecl, SubBody, Package, PackageBody, If, Branch, Case, When, Loop, While, For, Block}
 
 abbrev pub id_count : Code → ℕ
 id_count (More d rest) = 1 + id_count rest

@@ -2,9 +2,9 @@
 -- anonymous access types have numbers of their own, and its identifiers denote what the program declares.
 use Rattle.std.specs.Prelude.{◌≡◌, true}
 use Rattle.std.proofs.Common.{IsTrue}
-use Rattle.spark_base.specs.Lists.{Has}
-use Rattle.resolved_tree.specs.Trees.{Code, Program}
-use Rattle.type_definitions.specs.Whole.{known_of}
+use Rattle.machine.specs.spark_base.Lists.{Has}
+use Rattle.machine.specs.resolved_tree.Trees.{Code, Program}
+use Rattle.machine.specs.type_definitions.Whole.{known_of}
 use Rattle.type_sizes.specs.Formed.{all_formed}
 use Rattle.settled_types.specs.Orderly.{IsOrderly}
 use Rattle.settled_types.specs.GatheredLaws.Left.{Left}
