@@ -5,12 +5,12 @@ use Rattle.std.specs.List.{list_any}
 use Rattle.std.proofs.Common.{◌≡◌, ◌⊎◌, inl, inr, ◌<◌, ◌≤◌, arith, ℕ, zero, suc, Bool, true, false, not, ◌&&◌, ◌||◌, ◌==◌, eqb-true, List, [], ◌∷◌, ◌++◌, length, get_or, refl, sym, ap, ◌∙◌, subst, None, if◌then◌else◌, true≢false}
 use Rattle.std.proofs.Math.Nat.{eq-or-lt_of_le}
 use Rattle.std.proofs.lemmas.List.{get_or_past}
-use Rattle.spark_base.specs.Lists.{Has}
-use Rattle.typed_tree.specs.Programs.{text_io}
-use Rattle.flow_paths.specs.declared.report.Effects.{Effects}
-use Rattle.flow_paths.specs.Objects.{Typing, is_package_object, is_state}
-use Rattle.flow_paths.specs.Laid.{FlowSub, FlowProgram, flow_typing}
-use Rattle.flow_paths.specs.Effects.{AreEffects, Ascends, CallChain, ends, calls_on, own_reads, own_writes, point_reads, point_writes, is_global, is_in, sub_calls, flow_sub_at}
+use Rattle.machine.specs.spark_base.Lists.{Has}
+use Rattle.machine.specs.typed_tree.Programs.{text_io}
+use Rattle.machine.specs.flow_paths.declared.report.Effects.{Effects}
+use Rattle.machine.specs.flow_paths.Objects.{Typing, is_package_object, is_state}
+use Rattle.machine.specs.flow_paths.Laid.{FlowSub, FlowProgram, flow_typing}
+use Rattle.machine.specs.flow_paths.Effects.{AreEffects, Ascends, CallChain, ends, calls_on, own_reads, own_writes, point_reads, point_writes, is_global, is_in, sub_calls, flow_sub_at}
 use Rattle.accepted_examples.proofs.Quiet.{all_pass, left_of, right_of, each}
 
 -- ---- numbers

@@ -7,13 +7,13 @@ use Rattle.ada_tree.specs.declared.declaration.Indication.TheVariants as indicat
 use Rattle.ada_tree.specs.declared.unit.SourceUnit.{SourceUnit}
 use Rattle.ada_grammar.proofs.SmallSources.{IsTextOf, computes, source_of, at, id, mark, expr_of, object, null_at, procedure_of}
 use Rattle.name_events.specs.Faults.{name_fault}
-use Rattle.type_definitions.specs.Whole.{type_fault}
+use Rattle.machine.specs.type_definitions.Whole.{type_fault}
 use Rattle.typing_steps.specs.Programs.{program_of}
 use Rattle.settled_types.specs.OrderLaws.Orderly.{typed_of}
-use Rattle.flow_paths.specs.Laid.{FlowSub}
-use Rattle.flow_paths.specs.Effects.{asks_for_end, path_points}
-use Rattle.flow_paths.specs.Aliases.{alias_reports}
-use Rattle.flow_paths.specs.Views.{encloses_within}
+use Rattle.machine.specs.flow_paths.Laid.{FlowSub}
+use Rattle.machine.specs.flow_paths.Effects.{asks_for_end, path_points}
+use Rattle.machine.specs.flow_paths.Aliases.{alias_reports}
+use Rattle.machine.specs.flow_paths.Views.{encloses_within}
 use Rattle.program_check.specs.Sources.{flow_of}
 use Rattle.settled_types.specs.FilePositions.Texts.{AreParsed}
 use Rattle.settled_types.proofs.FilePositions.Cuts.{cut_in_order}

@@ -2,20 +2,20 @@
 use Rattle.std.specs.Prelude.{IsTrue}
 use Rattle.std.specs.List.{list_any}
 use Rattle.std.proofs.Common.{◌≡◌, ℕ, zero, suc, inl, inr, Bool, true, false, not, ◌&&◌, ◌||◌, ◌==◌, List, [], ◌∷◌, ◌++◌, length, get_or, map, refl, sym, ap, ◌∙◌, subst, Some, None, true≢false}
-use Rattle.spark_base.specs.Lists.{Has}
-use Rattle.place_names.specs.declared.act.Act.{Act}
-use Rattle.place_names.specs.declared.act.Act.TheVariants as act
-use Rattle.place_names.specs.declared.act.Placed.{Placed}
-use Rattle.place_names.specs.Facts.{facts_after}
-use Rattle.place_names.specs.Reports.{Report}
-use Rattle.flow_paths.specs.declared.report.Effects.{Effects}
-use Rattle.flow_paths.specs.Points.{FlowPoint}
-use Rattle.flow_paths.specs.Laid.{FlowSub, FlowProgram, flow_typing}
-use Rattle.flow_paths.specs.Paths.{PathPoint, PathReport, path_point, acts_at, acts_along}
-use Rattle.flow_paths.specs.Views.{ViewReport, changed, lent, given, called, text_io, shorter, elsewhere, other_root, is_function, changes, lends}
-use Rattle.flow_paths.specs.Aliases.{alias_reports}
-use Rattle.flow_paths.specs.Effects.{AreEffects, Reads, Writes, Ascends, path_points, point_reads, point_writes, is_global, reads_text, writes_text, flow_sub_at, act_reads, act_writes}
-use Rattle.flow_paths.specs.Reports.{AreReports, ProgramReport, on_actuals, on_views, on_paths}
+use Rattle.machine.specs.spark_base.Lists.{Has}
+use Rattle.machine.specs.place_names.declared.act.Act.{Act}
+use Rattle.machine.specs.place_names.declared.act.Act.TheVariants as act
+use Rattle.machine.specs.place_names.declared.act.Placed.{Placed}
+use Rattle.machine.specs.place_names.Facts.{facts_after}
+use Rattle.machine.specs.place_names.Reports.{Report}
+use Rattle.machine.specs.flow_paths.declared.report.Effects.{Effects}
+use Rattle.machine.specs.flow_paths.Points.{FlowPoint}
+use Rattle.machine.specs.flow_paths.Laid.{FlowSub, FlowProgram, flow_typing}
+use Rattle.machine.specs.flow_paths.Paths.{PathPoint, PathReport, path_point, acts_at, acts_along}
+use Rattle.machine.specs.flow_paths.Views.{ViewReport, changed, lent, given, called, text_io, shorter, elsewhere, other_root, is_function, changes, lends}
+use Rattle.machine.specs.flow_paths.Aliases.{alias_reports}
+use Rattle.machine.specs.flow_paths.Effects.{AreEffects, Reads, Writes, Ascends, path_points, point_reads, point_writes, is_global, reads_text, writes_text, flow_sub_at, act_reads, act_writes}
+use Rattle.machine.specs.flow_paths.Reports.{AreReports, ProgramReport, on_actuals, on_views, on_paths}
 
 abbrev pub is_calm : Act → Bool
 is_calm (act.Return roots) = true

@@ -5,7 +5,7 @@ use Rattle.ada_tree.specs.declared.unit.SourceUnit.{SourceUnit}
 use Rattle.ada_tree.specs.declared.unit.SourceUnit.TheVariants as unit
 use Rattle.ada_grammar.proofs.SmallSources.{IsTextOf, computes, source_of, at, id, null_at, subprogram_of}
 use Rattle.name_events.specs.Faults.{name_fault}
-use Rattle.type_definitions.specs.Whole.{type_fault}
+use Rattle.machine.specs.type_definitions.Whole.{type_fault}
 use Rattle.typing_steps.specs.Programs.{program_of}
 use Rattle.settled_types.specs.OrderLaws.Orderly.{typed_of}
 use Rattle.accepted_examples.proofs.Naming.{naming}

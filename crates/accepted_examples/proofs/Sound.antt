@@ -3,9 +3,9 @@ use Rattle.std.proofs.Common.{◌≡◌, ℕ, true, List, [], ◌∷◌, refl, O
 use Rattle.std.specs.Prelude.{codes}
 use Rattle.ada_grammar.proofs.SmallSources.{computes}
 use Rattle.ada_lexer.specs.Tokens.{Cut, CutResult, tokens}
-use Rattle.flow_paths.specs.Effects.{asks_for_end, path_points}
-use Rattle.flow_paths.specs.Aliases.{alias_reports}
-use Rattle.flow_paths.specs.Laid.{FlowSub}
+use Rattle.machine.specs.flow_paths.Effects.{asks_for_end, path_points}
+use Rattle.machine.specs.flow_paths.Aliases.{alias_reports}
+use Rattle.machine.specs.flow_paths.Laid.{FlowSub}
 use Rattle.program_check.specs.Sources.{flow_of}
 use Rattle.settled_types.specs.FilePositions.Texts.{AreParsed}
 use Rattle.settled_types.proofs.FilePositions.Cuts.{cut_in_order}

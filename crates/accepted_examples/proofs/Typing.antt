@@ -1,22 +1,22 @@
 -- What is computed of types, typed programs and their layout.
-use Rattle.type_definitions.specs.Types.{words_within, parts_within, words, parts, owns_within, is_owning}
-use Rattle.type_definitions.specs.Entries.{is_complete}
-use Rattle.type_definitions.specs.Names.{seen, step, along, reading_of}
-use Rattle.type_definitions.specs.Statics.{is_static, value}
-use Rattle.type_definitions.specs.Expressions.{own_type, compares, inside, arguments, within_suffix, behind}
-use Rattle.type_definitions.specs.Statements.{range_faults, has_gap}
-use Rattle.type_definitions.specs.Gathered.{gather}
-use Rattle.type_definitions.specs.Declarations.{some_part, code_faults, alternatives_faults, alternative_faults}
-use Rattle.type_definitions.specs.Whole.{made, known_of}
-use Rattle.typed_tree.specs.Expressions.{characters, typed_expression}
-use Rattle.typed_tree.specs.Statements.{scope_count, statements}
-use Rattle.typed_tree.specs.Programs.{scopes_in, objects_in, bodies_in, subs_in, typed_program}
-use Rattle.flow_paths.specs.Names.{selectors, has_call, waiting}
-use Rattle.flow_paths.specs.Acts.{acts_in}
-use Rattle.flow_paths.specs.Prep.{held, prep}
-use Rattle.flow_paths.specs.Layout.{declared, choices_of, laid}
-use Rattle.flow_paths.specs.Laid.{distinct, declared_within, flow_program}
-use Rattle.type_definitions.specs.Whole.{sentence_faults, all_made, type_sizes, type_fault}
+use Rattle.machine.specs.type_definitions.Types.{words_within, parts_within, words, parts, owns_within, is_owning}
+use Rattle.machine.specs.type_definitions.Entries.{is_complete}
+use Rattle.machine.specs.type_definitions.Names.{seen, step, along, reading_of}
+use Rattle.machine.specs.type_definitions.Statics.{is_static, value}
+use Rattle.machine.specs.type_definitions.Expressions.{own_type, compares, inside, arguments, within_suffix, behind}
+use Rattle.machine.specs.type_definitions.Statements.{range_faults, has_gap}
+use Rattle.machine.specs.type_definitions.Gathered.{gather}
+use Rattle.machine.specs.type_definitions.Declarations.{some_part, code_faults, alternatives_faults, alternative_faults}
+use Rattle.machine.specs.type_definitions.Whole.{made, known_of}
+use Rattle.machine.specs.typed_tree.Expressions.{characters, typed_expression}
+use Rattle.machine.specs.typed_tree.Statements.{scope_count, statements}
+use Rattle.machine.specs.typed_tree.Programs.{scopes_in, objects_in, bodies_in, subs_in, typed_program}
+use Rattle.machine.specs.flow_paths.Names.{selectors, has_call, waiting}
+use Rattle.machine.specs.flow_paths.Acts.{acts_in}
+use Rattle.machine.specs.flow_paths.Prep.{held, prep}
+use Rattle.machine.specs.flow_paths.Layout.{declared, choices_of, laid}
+use Rattle.machine.specs.flow_paths.Laid.{distinct, declared_within, flow_program}
+use Rattle.machine.specs.type_definitions.Whole.{sentence_faults, all_made, type_sizes, type_fault}
 use Rattle.tree_lowering.specs.Lowered.{lowered_files, lowered_unit, lowered_subprogram, lowered_subspec, lowered_stmts, lowered_stmt_box, stmts_row, lowered_stmt, lowered_simple}
 
 -- The definitions that are computed where a lemma names this one.

@@ -1,6 +1,6 @@
 -- A run that is sound doesn't end in a trap.
 use Rattle.std.proofs.Common.{◌≡◌, ℕ, List, refl, ap}
-use Rattle.flow_paths.specs.Laid.{FlowProgram}
+use Rattle.machine.specs.flow_paths.Laid.{FlowProgram}
 use Rattle.machine.specs.States.{Outcome, Goes, Ends}
 use Rattle.machine.specs.Run.{run, run_of, main_of, ended}
 use Rattle.soundness.specs.Sound.{IsTrap, ending_of}

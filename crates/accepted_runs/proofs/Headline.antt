@@ -1,9 +1,9 @@
 -- The run of a program whose texts pass is sound.
 use Rattle.std.proofs.Common.{ℕ, List}
 use Rattle.ada_tree.specs.declared.unit.SourceUnit.{SourceUnit}
-use Rattle.flow_paths.specs.declared.report.Effects.{Effects}
+use Rattle.machine.specs.flow_paths.declared.report.Effects.{Effects}
 use Rattle.soundness.specs.Sound.{RunIsSound}
-use Rattle.type_definitions.specs.Whole.{known_of}
+use Rattle.machine.specs.type_definitions.Whole.{known_of}
 use Rattle.typing_steps.specs.Programs.{program_of}
 use Rattle.program_check.specs.Sources.{flow_of}
 use Rattle.settled_types.specs.OrderLaws.Orderly.{typed_of}

@@ -2,15 +2,15 @@
 use Rattle.std.proofs.Common.{◌≡◌, ◌∙◌, ℕ, List, [], Option, None, Some, IsSome, refl, ap, sym, subst}
 use Rattle.std.proofs.Math.Logic.{∥∥₁_map, ∥∥₁_map₂}
 use Rattle.ada_tree.specs.declared.unit.SourceUnit.{SourceUnit}
-use Rattle.flow_paths.specs.declared.report.Effects.{Effects}
-use Rattle.flow_paths.specs.Effects.{AreEffects}
-use Rattle.flow_paths.specs.Laid.{FlowProgram, flow_program}
-use Rattle.flow_paths.specs.Limits.{lay_fault}
-use Rattle.flow_paths.specs.Reports.{AreReports}
-use Rattle.type_definitions.specs.Types.{Table}
-use Rattle.type_definitions.specs.Whole.{known_of, type_fault}
+use Rattle.machine.specs.flow_paths.declared.report.Effects.{Effects}
+use Rattle.machine.specs.flow_paths.Effects.{AreEffects}
+use Rattle.machine.specs.flow_paths.Laid.{FlowProgram, flow_program}
+use Rattle.machine.specs.flow_paths.Limits.{lay_fault}
+use Rattle.machine.specs.flow_paths.Reports.{AreReports}
+use Rattle.machine.specs.type_definitions.Types.{Table}
+use Rattle.machine.specs.type_definitions.Whole.{known_of, type_fault}
 use Rattle.typing_steps.specs.Programs.{program_of as text_program}
-use Rattle.typed_tree.specs.Programs.{TypedProgram}
+use Rattle.machine.specs.typed_tree.Programs.{TypedProgram}
 use Rattle.settled_types.specs.OrderLaws.Orderly.{typed_of}
 use Rattle.laid_program.specs.Layouts.{IsLayout}
 use Rattle.laid_program.specs.Programs.{program_of}

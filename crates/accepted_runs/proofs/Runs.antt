@@ -1,9 +1,9 @@
 -- What holds of the runs of the program of some files.
 use Rattle.std.proofs.Common.{ℕ, List}
 use Rattle.ada_tree.specs.declared.unit.SourceUnit.{SourceUnit}
-use Rattle.type_definitions.specs.Whole.{known_of}
+use Rattle.machine.specs.type_definitions.Whole.{known_of}
 use Rattle.typing_steps.specs.Programs.{program_of}
-use Rattle.flow_paths.specs.declared.report.Effects.{Effects}
+use Rattle.machine.specs.flow_paths.declared.report.Effects.{Effects}
 use Rattle.soundness.specs.Sound.{RunIsSound}
 use Rattle.program_check.specs.Sources.{flow_of}
 use Rattle.settled_types.specs.OrderLaws.Orderly.{typed_of}

@@ -1,9 +1,9 @@
 -- In runs of programs that `check` accepts, no leak check fails that the leak plan excuses.
 use Rattle.std.proofs.Common.{ℕ, List}
 use Rattle.ada_tree.specs.declared.unit.SourceUnit.{SourceUnit}
-use Rattle.type_definitions.specs.Whole.{known_of}
+use Rattle.machine.specs.type_definitions.Whole.{known_of}
 use Rattle.typing_steps.specs.Programs.{program_of}
-use Rattle.flow_paths.specs.declared.report.Effects.{Effects}
+use Rattle.machine.specs.flow_paths.declared.report.Effects.{Effects}
 use Rattle.settled_types.specs.OrderLaws.Orderly.{typed_of}
 use Rattle.recycled_runs.proofs.ViewedFacts.Runs.{run_holds}
 use Rattle.accepted_runs.specs.Passed.{Passes}

@@ -1,10 +1,10 @@
 -- With null in moved places, the runs of programs that `check` accepts give the same.
 use Rattle.std.proofs.Common.{ℕ, List}
-use Rattle.spark_base.specs.declared.limits.TheConstants.{TOKENS}
+use Rattle.machine.specs.spark_base.declared.limits.TheConstants.{TOKENS}
 use Rattle.ada_tree.specs.declared.unit.SourceUnit.{SourceUnit}
-use Rattle.type_definitions.specs.Whole.{known_of}
+use Rattle.machine.specs.type_definitions.Whole.{known_of}
 use Rattle.typing_steps.specs.Programs.{program_of}
-use Rattle.flow_paths.specs.declared.report.Effects.{Effects}
+use Rattle.machine.specs.flow_paths.declared.report.Effects.{Effects}
 use Rattle.program_check.specs.Sources.{flow_of}
 use Rattle.settled_types.specs.OrderLaws.Orderly.{typed_of}
 use Rattle.sound_files.proofs.TypedFiles.Main.{parsed_steps}

@@ -1,10 +1,10 @@
 -- The runs of programs that `check` accepts are sound.
 use Rattle.std.proofs.Common.{ℕ, List}
-use Rattle.spark_base.specs.declared.limits.TheConstants.{TOKENS}
+use Rattle.machine.specs.spark_base.declared.limits.TheConstants.{TOKENS}
 use Rattle.ada_tree.specs.declared.unit.SourceUnit.{SourceUnit}
-use Rattle.type_definitions.specs.Whole.{known_of}
+use Rattle.machine.specs.type_definitions.Whole.{known_of}
 use Rattle.typing_steps.specs.Programs.{program_of}
-use Rattle.flow_paths.specs.declared.report.Effects.{Effects}
+use Rattle.machine.specs.flow_paths.declared.report.Effects.{Effects}
 use Rattle.settled_types.specs.OrderLaws.Orderly.{typed_of}
 use Rattle.viewed_steps.specs.Ready.{IsReady}
 use Rattle.viewed_steps.proofs.Main.{ready_sound}

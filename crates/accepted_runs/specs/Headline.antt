@@ -1,8 +1,8 @@
 -- What is said of the runs of programs of which nothing is reported.
 use Rattle.std.specs.Prelude.{◌≡◌, ℕ, List, Some}
-use Rattle.flow_paths.specs.declared.report.Effects.{Effects}
-use Rattle.flow_paths.specs.Effects.{AreEffects}
-use Rattle.flow_paths.specs.Laid.{FlowProgram, flow_typing}
+use Rattle.machine.specs.flow_paths.declared.report.Effects.{Effects}
+use Rattle.machine.specs.flow_paths.Effects.{AreEffects}
+use Rattle.machine.specs.flow_paths.Laid.{FlowProgram, flow_typing}
 use Rattle.machine.specs.States.{Ending}
 use Rattle.machine.specs.Owners.{WellOwned}
 use Rattle.machine.specs.Run.{moment, run_of, main_of}

@@ -1,16 +1,16 @@
 -- Texts that `check` accepts.
 use Rattle.std.specs.Prelude.{◌≡◌, ℕ, List, [], None, Ok}
-use Rattle.spark_base.specs.declared.limits.TheConstants.{TOKENS}
+use Rattle.machine.specs.spark_base.declared.limits.TheConstants.{TOKENS}
 use Rattle.ada_lexer.specs.Tokens.{Cut}
 use Rattle.ada_tree.specs.declared.unit.SourceUnit.{SourceUnit}
 use Rattle.name_events.specs.Faults.{name_fault}
-use Rattle.type_definitions.specs.Whole.{type_fault}
+use Rattle.machine.specs.type_definitions.Whole.{type_fault}
 use Rattle.typing_steps.specs.Programs.{program_of}
-use Rattle.flow_paths.specs.declared.report.Effects.{Effects}
-use Rattle.flow_paths.specs.Effects.{AreEffects}
-use Rattle.flow_paths.specs.Laid.{FlowProgram}
-use Rattle.flow_paths.specs.Limits.{lay_fault}
-use Rattle.flow_paths.specs.Reports.{AreReports}
+use Rattle.machine.specs.flow_paths.declared.report.Effects.{Effects}
+use Rattle.machine.specs.flow_paths.Effects.{AreEffects}
+use Rattle.machine.specs.flow_paths.Laid.{FlowProgram}
+use Rattle.machine.specs.flow_paths.Limits.{lay_fault}
+use Rattle.machine.specs.flow_paths.Reports.{AreReports}
 use Rattle.program_check.specs.Sources.{flow_of}
 use Rattle.source_trees.specs.Cuts.{all_tokens}
 use Rattle.source_trees.specs.Trees.{AreTreesOf}

@@ -1,12 +1,12 @@
 -- The runs of what `check` accepts leave the cells of the machine's last state.
 use Rattle.std.proofs.Common.{◌≡◌, List, ℕ, sym, subst, IsSome}
 use Rattle.std.proofs.Math.Logic.{∥∥₁_map}
-use Rattle.spark_base.specs.declared.limits.TheConstants.{TOKENS}
+use Rattle.machine.specs.spark_base.declared.limits.TheConstants.{TOKENS}
 use Rattle.ada_tree.specs.declared.unit.SourceUnit.{SourceUnit}
-use Rattle.type_definitions.specs.Whole.{known_of}
+use Rattle.machine.specs.type_definitions.Whole.{known_of}
 use Rattle.typing_steps.specs.Programs.{program_of}
-use Rattle.flow_paths.specs.declared.report.Effects.{Effects}
-use Rattle.flow_paths.specs.Laid.{FlowProgram}
+use Rattle.machine.specs.flow_paths.declared.report.Effects.{Effects}
+use Rattle.machine.specs.flow_paths.Laid.{FlowProgram}
 use Rattle.laid_program.specs.declared.laid.Laid.{Laid}
 use Rattle.laid_program.specs.Programs.{program_of as laid_out}
 use Rattle.path_check.specs.declared.accepted.AcceptedProgram.{AcceptedProgram}

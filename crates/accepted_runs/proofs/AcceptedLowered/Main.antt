@@ -1,8 +1,8 @@
 -- Programs that `check` accepts are lowered.
 use Rattle.std.proofs.Common.{◌≡◌, ◌≤◌, ℕ, List, None, arith}
-use Rattle.spark_base.specs.declared.limits.TheConstants.{TOKENS}
+use Rattle.machine.specs.spark_base.declared.limits.TheConstants.{TOKENS}
 use Rattle.ada_tree.specs.declared.unit.SourceUnit.{SourceUnit}
-use Rattle.flow_paths.specs.declared.report.Effects.{Effects}
+use Rattle.machine.specs.flow_paths.declared.report.Effects.{Effects}
 use Rattle.program_check.specs.Sources.{flow_of}
 use Rattle.run_codes.specs.Programs.{lowered_program}
 use Rattle.sound_files.specs.TypedFiles.LoweredSources.Tokens.{token_count}

@@ -1,7 +1,7 @@
 -- Texts have no more tokens than there is room for.
 use Rattle.std.proofs.Common.{◌≡◌, ◌≤◌, ℕ, zero, suc, ◌+◌, ◌-◌, ◌==◌, Bool, true, false, if◌then◌else◌, List, [], ◌∷◌, length, take, Ok, Err, refl, subst, arith}
 use Rattle.std.proofs.lemmas.Bool.{true≢false}
-use Rattle.spark_base.specs.declared.position.Pos.{Pos}
+use Rattle.machine.specs.spark_base.declared.position.Pos.{Pos}
 use Rattle.ada_lexer.specs.declared.token.TokenKind.TheVariants.{EndOfFile}
 use Rattle.ada_lexer.specs.declared.refusal.LexRefusal.TheVariants as refused
 use Rattle.ada_lexer.specs.declared.piece.Piece.{Piece}

@@ -1,8 +1,8 @@
 -- What passes is lowered, and passes the tests before a run.
 use Rattle.std.proofs.Common.{◌≡◌, ℕ, List, sym, ap, ◌∙◌}
-use Rattle.spark_base.specs.declared.limits.TheConstants.{TOKENS}
+use Rattle.machine.specs.spark_base.declared.limits.TheConstants.{TOKENS}
 use Rattle.ada_tree.specs.declared.unit.SourceUnit.{SourceUnit}
-use Rattle.flow_paths.specs.declared.report.Effects.{Effects}
+use Rattle.machine.specs.flow_paths.declared.report.Effects.{Effects}
 use Rattle.laid_program.specs.declared.laid.Laid.{Laid}
 use Rattle.laid_program.specs.Programs.{program_of}
 use Rattle.program_check.specs.Sources.{flow_of}

@@ -3,13 +3,13 @@ use Rattle.std.proofs.Common.{◌≡◌, inl, inr, ℕ, zero, suc, ◌+◌, ◌<
 use Rattle.std.specs.List.{list_all}
 use Rattle.std.proofs.lemmas.Bool.{and_from, cases_lt, or_left, or_right}
 use Rattle.std.proofs.lemmas.List.{get_or_past}
-use Rattle.type_definitions.specs.declared.table.Component.{Component}
-use Rattle.type_definitions.specs.declared.table.Info.{Info}
-use Rattle.type_definitions.specs.declared.table.Shape.{Shape}
-use Rattle.type_definitions.specs.declared.table.Shape.TheVariants as shape
-use Rattle.type_definitions.specs.Types.{Table, info_found, shape_found, full, words}
-use Rattle.type_definitions.specs.Declarations.{any_of, holds_shape, holds_parent}
-use Rattle.type_definitions.specs.Entries.{boolean}
+use Rattle.machine.specs.type_definitions.declared.table.Component.{Component}
+use Rattle.machine.specs.type_definitions.declared.table.Info.{Info}
+use Rattle.machine.specs.type_definitions.declared.table.Shape.{Shape}
+use Rattle.machine.specs.type_definitions.declared.table.Shape.TheVariants as shape
+use Rattle.machine.specs.type_definitions.Types.{Table, info_found, shape_found, full, words}
+use Rattle.machine.specs.type_definitions.Declarations.{any_of, holds_shape, holds_parent}
+use Rattle.machine.specs.type_definitions.Entries.{boolean}
 use Rattle.type_settled.specs.Reach.{holds}
 use Rattle.type_settled.specs.Rings.{IsPart}
 use Rattle.settled_types.specs.Wholes.{written, AreFinite}

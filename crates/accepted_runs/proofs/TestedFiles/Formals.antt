@@ -2,13 +2,13 @@
 use Rattle.std.proofs.Common.{◌≡◌, refl, sym, ap, ◌∙◌, subst, inl, inr, ℕ, suc, ◌+◌, ◌≤◌, Bool, true, false, nat_eq, nat_le, List, [], ◌∷◌, ◌++◌, map, arith, None}
 use Rattle.std.specs.List.{position_or_len}
 use Rattle.std.proofs.lemmas.Bool.{and_from, and_parts}
-use Rattle.spark_base.specs.Lists.{Has}
-use Rattle.spark_base.proofs.Lists.{Has-map}
-use Rattle.resolved_tree.specs.Trees.{Code}
-use Rattle.type_definitions.specs.declared.table.Known.{Known}
-use Rattle.typed_tree.specs.Expressions.{Site, object_number}
-use Rattle.typed_tree.specs.Programs.{TypedSub, DeclaredObject, program_objects, site_of, subs_in, over_units, typed_program}
-use Rattle.flow_paths.specs.Laid.{declared_within}
+use Rattle.machine.specs.spark_base.Lists.{Has}
+use Rattle.soundness.proofs.Lists.{Has-map}
+use Rattle.machine.specs.resolved_tree.Trees.{Code}
+use Rattle.machine.specs.type_definitions.declared.table.Known.{Known}
+use Rattle.machine.specs.typed_tree.Expressions.{Site, object_number}
+use Rattle.machine.specs.typed_tree.Programs.{TypedSub, DeclaredObject, program_objects, site_of, subs_in, over_units, typed_program}
+use Rattle.machine.specs.flow_paths.Laid.{declared_within}
 use Rattle.settled_types.specs.OrderLaws.ScopeLaws.Code.{Once}
 use Rattle.settled_types.specs.OrderLaws.Written.{is_unit}
 use Rattle.settled_types.proofs.OrderLaws.Numbers.{numbers}

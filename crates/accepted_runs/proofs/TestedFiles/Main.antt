@@ -5,10 +5,10 @@ use Rattle.ada_tree.specs.declared.unit.SourceUnit.{SourceUnit}
 use Rattle.name_events.specs.Identified.{identified}
 use Rattle.name_events.specs.Outline.{source_events}
 use Rattle.name_events.specs.Faults.{name_fault}
-use Rattle.spark_base.specs.Lists.{Has}
-use Rattle.resolved_tree.specs.Trees.{Program, Code}
-use Rattle.type_definitions.specs.Types.{Table}
-use Rattle.type_definitions.specs.Whole.{outside, type_fault, known_of}
+use Rattle.machine.specs.spark_base.Lists.{Has}
+use Rattle.machine.specs.resolved_tree.Trees.{Program, Code}
+use Rattle.machine.specs.type_definitions.Types.{Table}
+use Rattle.machine.specs.type_definitions.Whole.{outside, type_fault, known_of}
 use Rattle.type_sizes.specs.Formed.{all_formed}
 use Rattle.typing_steps.specs.Programs.{program_of}
 use Rattle.type_rules.proofs.Formed.{files_formed}
@@ -21,7 +21,7 @@ use Rattle.settled_types.specs.FilePositions.Order.{Ascends, event_positions}
 use Rattle.settled_types.specs.FilePositions.Texts.{AreParsed}
 use Rattle.settled_types.proofs.FilePositions.Ascending.{events_ascend}
 use Rattle.settled_types.proofs.FilePositions.Main.{files_apart, files_ended}
-use Rattle.flow_paths.specs.Laid.{FlowProgram, flow_program}
+use Rattle.machine.specs.flow_paths.Laid.{FlowProgram, flow_program}
 use Rattle.laid_program.specs.declared.laid.Laid.{Laid}
 use Rattle.laid_program.specs.Programs as laid_programs
 use Rattle.settled_types.proofs.NamedFiles.Library.{procedures}

@@ -3,17 +3,17 @@ use Rattle.std.proofs.Common.{◌≡◌, refl, sym, ap, subst, inl, inr, ℕ, su
 use Rattle.std.specs.List.{list_all}
 use Rattle.std.proofs.lemmas.Bool.{and_from}
 use Rattle.std.proofs.lemmas.List.{length-map}
-use Rattle.spark_base.specs.Lists.{Has}
-use Rattle.typed_tree.specs.declared.object.Object.{Object}
-use Rattle.typed_tree.specs.Nodes.{TypedNodes, typed_at, typed_code_at}
-use Rattle.typed_tree.specs.Trees.{TypedTree}
-use Rattle.flow_paths.specs.declared.instr.Instr.{Instr}
-use Rattle.flow_paths.specs.declared.instr.Instr.TheVariants as instr
-use Rattle.flow_paths.specs.declared.point.Point.{Point}
-use Rattle.flow_paths.specs.declared.point.LaidSub.{LaidSub}
-use Rattle.flow_paths.specs.Instructions.{Instruction, Call, instruction_of}
-use Rattle.flow_paths.specs.Laid.{FlowSub}
-use Rattle.flow_paths.specs.Stands.{flow_point_of, flow_sub_of}
+use Rattle.machine.specs.spark_base.Lists.{Has}
+use Rattle.machine.specs.typed_tree.declared.object.Object.{Object}
+use Rattle.machine.specs.typed_tree.Nodes.{TypedNodes, typed_at, typed_code_at}
+use Rattle.machine.specs.typed_tree.Trees.{TypedTree}
+use Rattle.machine.specs.flow_paths.declared.instr.Instr.{Instr}
+use Rattle.machine.specs.flow_paths.declared.instr.Instr.TheVariants as instr
+use Rattle.machine.specs.flow_paths.declared.point.Point.{Point}
+use Rattle.machine.specs.flow_paths.declared.point.LaidSub.{LaidSub}
+use Rattle.machine.specs.flow_paths.Instructions.{Instruction, Call, instruction_of}
+use Rattle.machine.specs.flow_paths.Laid.{FlowSub}
+use Rattle.machine.specs.flow_paths.Stands.{flow_point_of, flow_sub_of}
 use Rattle.laid_program.specs.declared.laid.Laid.{Laid}
 use Rattle.laid_program.specs.Programs.{program_of}
 use Rattle.machine.specs.States.{no_sub}

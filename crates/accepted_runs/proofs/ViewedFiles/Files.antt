@@ -2,42 +2,42 @@
 -- nothing is reported, if it is of the class.
 use Rattle.std.proofs.Common.{◌≡◌, refl, sym, ap, ◌∙◌, subst, ◌⊎◌, inl, inr, ℕ, suc, Bool, true, false, not, ◌&&◌, ◌||◌, List, [], ◌∷◌, get_or, Some, None}
 use Rattle.std.proofs.lemmas.Bool.{true≢false, false≢true}
-use Rattle.spark_base.specs.declared.position.Pos.{Pos}
-use Rattle.spark_base.specs.Lists.{Has}
-use Rattle.place_names.specs.declared.act.Mode.{Mode}
-use Rattle.place_names.specs.declared.act.Mode.TheVariants as mode
+use Rattle.machine.specs.spark_base.declared.position.Pos.{Pos}
+use Rattle.machine.specs.spark_base.Lists.{Has}
+use Rattle.machine.specs.place_names.declared.act.Mode.{Mode}
+use Rattle.machine.specs.place_names.declared.act.Mode.TheVariants as mode
 use Rattle.ada_lexer.specs.Tokens.{Cut}
 use Rattle.ada_tree.specs.declared.unit.SourceUnit.{SourceUnit}
 use Rattle.name_events.specs.Outline.{source_events}
 use Rattle.name_events.specs.Identified.{identified}
 use Rattle.name_events.specs.Denotes.{known_of as names_known}
 use Rattle.name_events.specs.Faults.{name_fault}
-use Rattle.resolved_tree.specs.declared.node.Mark.{Mark}
-use Rattle.resolved_tree.specs.Trees.{Code, Program}
+use Rattle.machine.specs.resolved_tree.declared.node.Mark.{Mark}
+use Rattle.machine.specs.resolved_tree.Trees.{Code, Program}
 use Rattle.typing_steps.specs.Programs.{program_of}
-use Rattle.type_definitions.specs.declared.table.Shape.{Shape}
-use Rattle.type_definitions.specs.declared.table.Shape.TheVariants as shape
-use Rattle.type_definitions.specs.declared.judgement.View.{View}
-use Rattle.type_definitions.specs.declared.judgement.View.TheVariants as view
-use Rattle.type_definitions.specs.Types.{Table, full, view_of, is_scalar, is_owning, owns_of, shape_of, words, words_of}
-use Rattle.type_definitions.specs.Entries.{integer, boolean, marked}
-use Rattle.type_definitions.specs.Expressions.{is_anonymous}
-use Rattle.type_definitions.specs.Whole.{outside, known_of, type_fault}
+use Rattle.machine.specs.type_definitions.declared.table.Shape.{Shape}
+use Rattle.machine.specs.type_definitions.declared.table.Shape.TheVariants as shape
+use Rattle.machine.specs.type_definitions.declared.judgement.View.{View}
+use Rattle.machine.specs.type_definitions.declared.judgement.View.TheVariants as view
+use Rattle.machine.specs.type_definitions.Types.{Table, full, view_of, is_scalar, is_owning, owns_of, shape_of, words, words_of}
+use Rattle.machine.specs.type_definitions.Entries.{integer, boolean, marked}
+use Rattle.machine.specs.type_definitions.Expressions.{is_anonymous}
+use Rattle.machine.specs.type_definitions.Whole.{outside, known_of, type_fault}
 use Rattle.type_rules.proofs.Formed.{files_formed}
-use Rattle.typed_tree.specs.declared.object.Object.{Object}
-use Rattle.typed_tree.specs.declared.object.ObjectKind.{ObjectKind}
-use Rattle.typed_tree.specs.declared.object.ObjectKind.TheVariants as object_kind
-use Rattle.typed_tree.specs.Trees.{TypedTree, Name, Call as CallIn, NoMore, More}
-use Rattle.typed_tree.specs.Trees as typed_tree
-use Rattle.typed_tree.specs.Programs.{TypedSub, site_of, elaboration, typed_program}
-use Rattle.flow_paths.specs.declared.report.Effects.{Effects}
-use Rattle.flow_paths.specs.Effects.{AreEffects}
-use Rattle.flow_paths.specs.Instructions.{Instruction, Declare, Assign, Hold}
-use Rattle.flow_paths.specs.Objects.{Typing}
-use Rattle.flow_paths.specs.Objects as flow
-use Rattle.flow_paths.specs.Points.{FlowPoint}
-use Rattle.flow_paths.specs.Laid.{FlowSub, FlowProgram, flow_typing, flow_program}
-use Rattle.flow_paths.specs.Reports.{AreReports}
+use Rattle.machine.specs.typed_tree.declared.object.Object.{Object}
+use Rattle.machine.specs.typed_tree.declared.object.ObjectKind.{ObjectKind}
+use Rattle.machine.specs.typed_tree.declared.object.ObjectKind.TheVariants as object_kind
+use Rattle.machine.specs.typed_tree.Trees.{TypedTree, Name, Call as CallIn, NoMore, More}
+use Rattle.machine.specs.typed_tree.Trees as typed_tree
+use Rattle.machine.specs.typed_tree.Programs.{TypedSub, site_of, elaboration, typed_program}
+use Rattle.machine.specs.flow_paths.declared.report.Effects.{Effects}
+use Rattle.machine.specs.flow_paths.Effects.{AreEffects}
+use Rattle.machine.specs.flow_paths.Instructions.{Instruction, Declare, Assign, Hold}
+use Rattle.machine.specs.flow_paths.Objects.{Typing}
+use Rattle.machine.specs.flow_paths.Objects as flow
+use Rattle.machine.specs.flow_paths.Points.{FlowPoint}
+use Rattle.machine.specs.flow_paths.Laid.{FlowSub, FlowProgram, flow_typing, flow_program}
+use Rattle.machine.specs.flow_paths.Reports.{AreReports}
 use Rattle.settled_types.specs.Orderly.{at_start, IsOrderly as IsInOrderText}
 use Rattle.settled_types.specs.OrderlyFiles.Apart.{AreApart}
 use Rattle.settled_types.specs.OrderlyFiles.Ended.{AllEnded}

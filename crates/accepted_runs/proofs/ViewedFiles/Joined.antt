@@ -4,17 +4,17 @@ use Rattle.std.proofs.Common.{◌≡◌, refl, ◌⊎◌, inl, inr, ℕ, ◌≤�
 use Rattle.std.specs.Prelude.{reverse}
 use Rattle.std.specs.List.{list_all}
 use Rattle.std.proofs.lemmas.Bool.{ltb-true, false≢true}
-use Rattle.spark_base.specs.Lists.{Has}
-use Rattle.spark_base.proofs.Lists.{Has-append_left, Has-append_right}
-use Rattle.typed_tree.specs.Trees.{TypedTree, TypedCode, Name, More}
-use Rattle.typed_tree.specs.Trees as typed
-use Rattle.flow_paths.specs.Instructions.{Instruction, Declare}
-use Rattle.flow_paths.specs.Objects.{Typing, sub_at, traverses, is_anonymous, is_observer, view_of}
-use Rattle.flow_paths.specs.Names.{first}
-use Rattle.flow_paths.specs.Layout.{declared}
-use Rattle.flow_paths.specs.Laid.{declared_within}
-use Rattle.flow_paths.specs.Scopes.{is_within}
-use Rattle.flow_paths.specs.Views.{encloses, scope_of}
+use Rattle.machine.specs.spark_base.Lists.{Has}
+use Rattle.soundness.proofs.Lists.{Has-append_left, Has-append_right}
+use Rattle.machine.specs.typed_tree.Trees.{TypedTree, TypedCode, Name, More}
+use Rattle.machine.specs.typed_tree.Trees as typed
+use Rattle.machine.specs.flow_paths.Instructions.{Instruction, Declare}
+use Rattle.machine.specs.flow_paths.Objects.{Typing, sub_at, traverses, is_anonymous, is_observer, view_of}
+use Rattle.machine.specs.flow_paths.Names.{first}
+use Rattle.machine.specs.flow_paths.Layout.{declared}
+use Rattle.machine.specs.flow_paths.Laid.{declared_within}
+use Rattle.machine.specs.flow_paths.Scopes.{is_within}
+use Rattle.machine.specs.flow_paths.Views.{encloses, scope_of}
 use Rattle.settled_types.specs.OrderLaws.ScopeLaws.Code.{roots, are_seen, is_seen, is_each_seen}
 use Rattle.settled_types.proofs.OrderLaws.ScopeLaws.Lists.{within_has, and_first, and_second, both_true}
 use Rattle.settled_types.specs.OrderLaws.ScopeLaws.LayeredScopes.Layered.{is_older, are_of_scope, are_apart, is_layered, is_each_layered}

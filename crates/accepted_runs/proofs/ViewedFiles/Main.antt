@@ -4,30 +4,30 @@ use Rattle.std.proofs.Common.{◌≡◌, refl, sym, ap, ◌∙◌, subst, ◌⊎
 use Rattle.std.proofs.lemmas.Bool.{false≢true, true≢false}
 use Rattle.std.specs.Prelude.{reverse, flat_map}
 use Rattle.std.specs.List.{AllByRecursion, position_or_len}
-use Rattle.spark_base.specs.Lists.{Has}
-use Rattle.place_names.specs.declared.act.Mode.{Mode}
-use Rattle.place_names.specs.declared.act.Mode.TheVariants as mode
-use Rattle.resolved_tree.specs.Trees.{Code, Formals, Program, code_items}
-use Rattle.type_definitions.specs.declared.table.Known.{Known}
-use Rattle.type_definitions.specs.Types.{Table, full}
-use Rattle.type_definitions.specs.Entries.{integer}
-use Rattle.type_definitions.specs.Gathered.{in_subprogram}
-use Rattle.type_definitions.specs.Declarations.{code_faults}
-use Rattle.type_definitions.specs.Whole.{outside, known_of}
-use Rattle.typed_tree.specs.declared.object.Object.{Object}
-use Rattle.typed_tree.specs.declared.object.ObjectKind.{ObjectKind}
-use Rattle.typed_tree.specs.declared.object.ObjectKind.TheVariants as object_kind
-use Rattle.typed_tree.specs.Trees.{TypedCode, typed_code_list}
-use Rattle.typed_tree.specs.Trees as typed
-use Rattle.typed_tree.specs.Expressions.{Site}
-use Rattle.typed_tree.specs.Statements.{scope_count, typed_body}
-use Rattle.typed_tree.specs.Programs.{TypedSub, DeclaredObject, Home, object_of, objects_in, scopes_in, formals_of, front_formals, local, placed, elaboration, elaborated, over_units, program_objects, site_of, text_io, typed_program}
+use Rattle.machine.specs.spark_base.Lists.{Has}
+use Rattle.machine.specs.place_names.declared.act.Mode.{Mode}
+use Rattle.machine.specs.place_names.declared.act.Mode.TheVariants as mode
+use Rattle.machine.specs.resolved_tree.Trees.{Code, Formals, Program, code_items}
+use Rattle.machine.specs.type_definitions.declared.table.Known.{Known}
+use Rattle.machine.specs.type_definitions.Types.{Table, full}
+use Rattle.machine.specs.type_definitions.Entries.{integer}
+use Rattle.machine.specs.type_definitions.Gathered.{in_subprogram}
+use Rattle.machine.specs.type_definitions.Declarations.{code_faults}
+use Rattle.machine.specs.type_definitions.Whole.{outside, known_of}
+use Rattle.machine.specs.typed_tree.declared.object.Object.{Object}
+use Rattle.machine.specs.typed_tree.declared.object.ObjectKind.{ObjectKind}
+use Rattle.machine.specs.typed_tree.declared.object.ObjectKind.TheVariants as object_kind
+use Rattle.machine.specs.typed_tree.Trees.{TypedCode, typed_code_list}
+use Rattle.machine.specs.typed_tree.Trees as typed
+use Rattle.machine.specs.typed_tree.Expressions.{Site}
+use Rattle.machine.specs.typed_tree.Statements.{scope_count, typed_body}
+use Rattle.machine.specs.typed_tree.Programs.{TypedSub, DeclaredObject, Home, object_of, objects_in, scopes_in, formals_of, front_formals, local, placed, elaboration, elaborated, over_units, program_objects, site_of, text_io, typed_program}
 use Rattle.machine.specs.Owners.{is_in, is_in_formal}
-use Rattle.flow_paths.specs.Objects.{Typing, object_at, is_variable, is_formal_kind, is_formal, is_observer, is_observing, is_anonymous, is_package_object, is_state, view_of}
-use Rattle.flow_paths.specs.Laid.{declared_within}
-use Rattle.flow_paths.specs.Layout.{declared}
-use Rattle.flow_paths.specs.Scopes.{is_within}
-use Rattle.flow_paths.specs.Views.{encloses, scope_of}
+use Rattle.machine.specs.flow_paths.Objects.{Typing, object_at, is_variable, is_formal_kind, is_formal, is_observer, is_observing, is_anonymous, is_package_object, is_state, view_of}
+use Rattle.machine.specs.flow_paths.Laid.{declared_within}
+use Rattle.machine.specs.flow_paths.Layout.{declared}
+use Rattle.machine.specs.flow_paths.Scopes.{is_within}
+use Rattle.machine.specs.flow_paths.Views.{encloses, scope_of}
 use Rattle.settled_types.specs.OrderLaws.ScopeLaws.Code.{Once, roots, are_seen, is_seen, body_seen}
 use Rattle.settled_types.proofs.OrderLaws.ScopeLaws.Lists.{and_first, and_second, both_true, all_both, all_has, has_reverse, within_has}
 use Rattle.soundness.specs.TypedLaws.Fine.{Laws}

@@ -2,19 +2,19 @@
 use Rattle.std.proofs.Common.{◌≡◌, refl, sym, ap, subst, ◌⊎◌, inl, inr, ℕ, Bool, true, false, List, [], ◌∷◌, ◌||◌, Some, None}
 use Rattle.std.proofs.lemmas.Bool.{true≢false, false≢true}
 use Rattle.std.specs.Prelude.{is_some}
-use Rattle.spark_base.specs.Lists.{Has as Holds}
-use Rattle.place_names.specs.declared.act.Mode.{Mode}
-use Rattle.place_names.specs.declared.act.Mode.TheVariants as mode
-use Rattle.type_definitions.specs.declared.table.Shape.{Shape}
-use Rattle.type_definitions.specs.declared.table.Shape.TheVariants as shape
-use Rattle.type_definitions.specs.Types.{shape_of, words, words_of, full, is_scalar, is_owning}
-use Rattle.type_definitions.specs.Types as types
-use Rattle.type_definitions.specs.Entries.{integer, boolean}
-use Rattle.typed_tree.specs.Trees.{TypedTree, Name, More}
-use Rattle.typed_tree.specs.Trees as typed
-use Rattle.flow_paths.specs.Objects.{Typing, Signature, object_at, sub_at, is_anonymous, view_of, traverses}
-use Rattle.flow_paths.specs.Points.{FlowPoint}
-use Rattle.flow_paths.specs.Laid.{FlowSub, FlowProgram, flow_typing}
+use Rattle.machine.specs.spark_base.Lists.{Has as Holds}
+use Rattle.machine.specs.place_names.declared.act.Mode.{Mode}
+use Rattle.machine.specs.place_names.declared.act.Mode.TheVariants as mode
+use Rattle.machine.specs.type_definitions.declared.table.Shape.{Shape}
+use Rattle.machine.specs.type_definitions.declared.table.Shape.TheVariants as shape
+use Rattle.machine.specs.type_definitions.Types.{shape_of, words, words_of, full, is_scalar, is_owning}
+use Rattle.machine.specs.type_definitions.Types as types
+use Rattle.machine.specs.type_definitions.Entries.{integer, boolean}
+use Rattle.machine.specs.typed_tree.Trees.{TypedTree, Name, More}
+use Rattle.machine.specs.typed_tree.Trees as typed
+use Rattle.machine.specs.flow_paths.Objects.{Typing, Signature, object_at, sub_at, is_anonymous, view_of, traverses}
+use Rattle.machine.specs.flow_paths.Points.{FlowPoint}
+use Rattle.machine.specs.flow_paths.Laid.{FlowSub, FlowProgram, flow_typing}
 use Rattle.machine.specs.States.{sub_of}
 use Rattle.soundness.specs.Typed.{OwnsByShape}
 use Rattle.soundness.specs.TypedLaws.Fine.{Has, Agree, counts, lists}
@@ -28,7 +28,7 @@ use Rattle.soundness.specs.ViewedSoundness.Holds.{IsNamed}
 use Rattle.soundness.proofs.ViewedSoundness.ViewKinds.{access_bundle}
 use Rattle.settled_types.proofs.OrderLaws.ReadyLaws.Actuals.{taken_stays}
 use Rattle.settled_types.specs.OrderLaws.ScopeLaws.Code.{Once}
-use Rattle.flow_paths.specs.Views.{traversed_of}
+use Rattle.machine.specs.flow_paths.Views.{traversed_of}
 use Rattle.viewed_steps.specs.Ready.{IsSeen, IsValueTo, is_shown_type}
 use Rattle.viewed_steps.proofs.Copies.{no_cell}
 use Rattle.accepted_runs.specs.ViewedFiles.ViewLaws.Program.{IsPassedTo, ArePassedTo, PassActuals}

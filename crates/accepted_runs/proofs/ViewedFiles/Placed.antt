@@ -1,11 +1,11 @@
 -- The objects and the scopes of a program have the numbers of their places in the text.
 use Rattle.std.proofs.Common.{◌≡◌, refl, sym, ap, ◌∙◌, subst, inl, inr, ℕ, suc, nat_eq, List, [], ◌∷◌, ◌++◌, map, length, get_or, arith, append_assoc, length-append}
 use Rattle.std.specs.List.{position_or_len}
-use Rattle.spark_base.specs.Lists.{Has}
-use Rattle.typed_tree.specs.declared.object.Object.{Object}
-use Rattle.typed_tree.specs.Expressions.{Site, object_number}
-use Rattle.typed_tree.specs.Programs.{DeclaredObject, text_io}
-use Rattle.flow_paths.specs.Objects.{Typing, object_at}
+use Rattle.machine.specs.spark_base.Lists.{Has}
+use Rattle.machine.specs.typed_tree.declared.object.Object.{Object}
+use Rattle.machine.specs.typed_tree.Expressions.{Site, object_number}
+use Rattle.machine.specs.typed_tree.Programs.{DeclaredObject, text_io}
+use Rattle.machine.specs.flow_paths.Objects.{Typing, object_at}
 use Rattle.settled_types.specs.OrderLaws.ScopeLaws.Code.{Once}
 use Rattle.settled_types.proofs.OrderLaws.Parts.{either, same_number, number_here, number_later}
 use Rattle.accepted_runs.specs.ViewedFiles.Places.{AreAt, AreAround}

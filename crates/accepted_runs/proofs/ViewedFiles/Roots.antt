@@ -2,23 +2,23 @@
 use Rattle.std.proofs.Common.{◌≡◌, refl, sym, ap, ◌∙◌, subst, inl, inr, ℕ, suc, ◌+◌, true, List, [], ◌∷◌, ◌++◌, map, flat_map}
 use Rattle.std.specs.List.{AllByRecursion}
 use Rattle.std.proofs.lemmas.Bool.{false≢true}
-use Rattle.spark_base.specs.Lists.{Has}
-use Rattle.place_names.specs.declared.act.Mode.{Mode}
-use Rattle.place_names.specs.declared.act.Mode.TheVariants as mode
-use Rattle.resolved_tree.specs.Trees.{Code, Objects, Numbers, Formals, SubBody, Package, PackageBody, If, Branch, Case, When, Loop, While, For, Block, More, code_items}
-use Rattle.type_definitions.specs.declared.table.Entry.TheVariants as entry
-use Rattle.type_definitions.specs.declared.table.Kind.{Kind}
-use Rattle.type_definitions.specs.declared.table.Kind.TheVariants as kind
-use Rattle.type_definitions.specs.declared.table.ObjectInfo.{ObjectInfo}
-use Rattle.type_definitions.specs.declared.table.Known.{Known}
-use Rattle.type_definitions.specs.Entries.{entry_of}
-use Rattle.type_definitions.specs.Statements.{is_formal_kind}
-use Rattle.type_definitions.specs.Gathered.{declared_number, declared_text}
-use Rattle.typed_tree.specs.Expressions.{Site, object_number, object_type}
-use Rattle.typed_tree.specs.Statements.{scope_count}
-use Rattle.typed_tree.specs.Programs.{DeclaredObject, Home, object_of, objects_in, formals_of, front_formals, local, in_package, package_text, kind_of, entry_kind, over_units}
-use Rattle.flow_paths.specs.Objects.{Typing, object_at, view_of, is_anonymous}
-use Rattle.flow_paths.specs.Objects as flow
+use Rattle.machine.specs.spark_base.Lists.{Has}
+use Rattle.machine.specs.place_names.declared.act.Mode.{Mode}
+use Rattle.machine.specs.place_names.declared.act.Mode.TheVariants as mode
+use Rattle.machine.specs.resolved_tree.Trees.{Code, Objects, Numbers, Formals, SubBody, Package, PackageBody, If, Branch, Case, When, Loop, While, For, Block, More, code_items}
+use Rattle.machine.specs.type_definitions.declared.table.Entry.TheVariants as entry
+use Rattle.machine.specs.type_definitions.declared.table.Kind.{Kind}
+use Rattle.machine.specs.type_definitions.declared.table.Kind.TheVariants as kind
+use Rattle.machine.specs.type_definitions.declared.table.ObjectInfo.{ObjectInfo}
+use Rattle.machine.specs.type_definitions.declared.table.Known.{Known}
+use Rattle.machine.specs.type_definitions.Entries.{entry_of}
+use Rattle.machine.specs.type_definitions.Statements.{is_formal_kind}
+use Rattle.machine.specs.type_definitions.Gathered.{declared_number, declared_text}
+use Rattle.machine.specs.typed_tree.Expressions.{Site, object_number, object_type}
+use Rattle.machine.specs.typed_tree.Statements.{scope_count}
+use Rattle.machine.specs.typed_tree.Programs.{DeclaredObject, Home, object_of, objects_in, formals_of, front_formals, local, in_package, package_text, kind_of, entry_kind, over_units}
+use Rattle.machine.specs.flow_paths.Objects.{Typing, object_at, view_of, is_anonymous}
+use Rattle.machine.specs.flow_paths.Objects as flow
 use Rattle.settled_types.proofs.OrderLaws.ScopeLaws.Lists.{all_both}
 use Rattle.sound_files.specs.SeenFiles.Fits.{AllFit}
 use Rattle.sound_files.specs.MeantFiles.Denoted.{AreDenoted}

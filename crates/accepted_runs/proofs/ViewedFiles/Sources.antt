@@ -4,47 +4,47 @@ use Rattle.std.proofs.Common.{◌≡◌, refl, sym, ap, ◌∙◌, subst, ◌⊎
 use Rattle.std.specs.Prelude.{flat_map}
 use Rattle.std.specs.List.{AllByRecursion}
 use Rattle.std.proofs.lemmas.Bool.{true≢false, false≢true}
-use Rattle.spark_base.specs.declared.position.Pos.{Pos}
-use Rattle.place_names.specs.declared.act.Mode.{Mode}
-use Rattle.place_names.specs.declared.act.Mode.TheVariants as mode
-use Rattle.resolved_tree.specs.declared.node.Mark.{Mark}
-use Rattle.resolved_tree.specs.declared.operator.Attribute.{Attribute}
-use Rattle.resolved_tree.specs.declared.operator.Attribute.TheVariants as attribute
-use Rattle.resolved_tree.specs.Trees.{Tree, Named, Selected, All, Applied, Attr, NoMore, More, position, Code, Plain, Anonymous, Formals, Front, code_items}
-use Rattle.type_definitions.specs.declared.table.Entry.{Entry}
-use Rattle.type_definitions.specs.declared.table.Entry.TheVariants as entry
-use Rattle.type_definitions.specs.declared.table.Kind.TheVariants as kind
-use Rattle.type_definitions.specs.declared.table.ObjectInfo.{ObjectInfo}
-use Rattle.type_definitions.specs.declared.table.Known.{Known}
-use Rattle.type_definitions.specs.declared.table.Profile.{Profile}
-use Rattle.type_definitions.specs.declared.table.Shape.{Shape}
-use Rattle.type_definitions.specs.declared.table.Shape.TheVariants as shape
-use Rattle.type_definitions.specs.declared.judgement.Fault.{Fault}
-use Rattle.type_definitions.specs.declared.judgement.View.{View}
-use Rattle.type_definitions.specs.declared.judgement.View.TheVariants as view
-use Rattle.type_definitions.specs.declared.judgement.Next.{Next}
-use Rattle.type_definitions.specs.declared.judgement.Next.TheVariants.{Goes, Gives, Stops}
-use Rattle.type_definitions.specs.declared.judgement.Reading.{Reading}
-use Rattle.type_definitions.specs.declared.judgement.Reading.TheVariants as reading
-use Rattle.type_definitions.specs.declared.judgement.Where.TheVariants as stands
-use Rattle.type_definitions.specs.Types.{Table, full, shape_of, view_of, untyped, is_untyped, is_owning, is_scalar, is_nil}
-use Rattle.type_definitions.specs.Entries.{entry_of, integer, marked, denotes_type}
-use Rattle.type_definitions.specs.Faults.{demand, K2, K6}
-use Rattle.type_definitions.specs.Names.{Context, extent, seen, step, along, led_on, ended, reached, through, indexed, is_index, array_value, array_attribute, of_entry, reading_of, is_end}
-use Rattle.type_definitions.specs.Expressions.{faults, inside, behind, way_of, reading_faults, given_names, call_arguments, own_of, next_type, is_variable, is_anonymous, is_traversal, profile_of, result_type, is_in}
-use Rattle.type_definitions.specs.Statements.{source_faults, source_name, source_fits, formal_source, designates, is_source, keeps_constant, is_object_entry, is_formal, is_formal_kind, target_faults, assign_faults, assigned}
-use Rattle.type_definitions.specs.Gathered.{indicated, is_anonymous_indication, declared_number, declared_pos, indicates_type, profile_from}
-use Rattle.type_definitions.specs.Declarations.{indication_faults, is_single, first_pos, first_number, in_package, starting, has_one, initial_faults, object_faults, formal_faults, group_faults, formals_group, formals_faults, front_faults, result_faults, is_traversable}
-use Rattle.typed_tree.specs.Trees.{TypedTree, TypedCode, Name, NoMore as nothing_more}
-use Rattle.typed_tree.specs.Trees as typed
-use Rattle.typed_tree.specs.declared.object.Object.{Object}
-use Rattle.typed_tree.specs.Expressions.{Site, object_number, sub_number, typed_expression, typed_name, typed_steps, typed_step, typed_actuals, typed_imaged, typed_optional, typed_first, called_function, object_type, designating, element}
-use Rattle.typed_tree.specs.Statements.{typed_object, typed_assign, type_read}
-use Rattle.typed_tree.specs.Programs.{DeclaredObject, Home, object_of, formals_of, front_formals, kind_of, entry_kind}
-use Rattle.flow_paths.specs.Instructions.{Declare}
-use Rattle.flow_paths.specs.Objects.{Typing, Signature, object_at, sub_at, is_variable as is_variable_object}
-use Rattle.flow_paths.specs.Objects as flow
-use Rattle.flow_paths.specs.Names.{first, whole, whole_object}
+use Rattle.machine.specs.spark_base.declared.position.Pos.{Pos}
+use Rattle.machine.specs.place_names.declared.act.Mode.{Mode}
+use Rattle.machine.specs.place_names.declared.act.Mode.TheVariants as mode
+use Rattle.machine.specs.resolved_tree.declared.node.Mark.{Mark}
+use Rattle.machine.specs.resolved_tree.declared.operator.Attribute.{Attribute}
+use Rattle.machine.specs.resolved_tree.declared.operator.Attribute.TheVariants as attribute
+use Rattle.machine.specs.resolved_tree.Trees.{Tree, Named, Selected, All, Applied, Attr, NoMore, More, position, Code, Plain, Anonymous, Formals, Front, code_items}
+use Rattle.machine.specs.type_definitions.declared.table.Entry.{Entry}
+use Rattle.machine.specs.type_definitions.declared.table.Entry.TheVariants as entry
+use Rattle.machine.specs.type_definitions.declared.table.Kind.TheVariants as kind
+use Rattle.machine.specs.type_definitions.declared.table.ObjectInfo.{ObjectInfo}
+use Rattle.machine.specs.type_definitions.declared.table.Known.{Known}
+use Rattle.machine.specs.type_definitions.declared.table.Profile.{Profile}
+use Rattle.machine.specs.type_definitions.declared.table.Shape.{Shape}
+use Rattle.machine.specs.type_definitions.declared.table.Shape.TheVariants as shape
+use Rattle.machine.specs.type_definitions.declared.judgement.Fault.{Fault}
+use Rattle.machine.specs.type_definitions.declared.judgement.View.{View}
+use Rattle.machine.specs.type_definitions.declared.judgement.View.TheVariants as view
+use Rattle.machine.specs.type_definitions.declared.judgement.Next.{Next}
+use Rattle.machine.specs.type_definitions.declared.judgement.Next.TheVariants.{Goes, Gives, Stops}
+use Rattle.machine.specs.type_definitions.declared.judgement.Reading.{Reading}
+use Rattle.machine.specs.type_definitions.declared.judgement.Reading.TheVariants as reading
+use Rattle.machine.specs.type_definitions.declared.judgement.Where.TheVariants as stands
+use Rattle.machine.specs.type_definitions.Types.{Table, full, shape_of, view_of, untyped, is_untyped, is_owning, is_scalar, is_nil}
+use Rattle.machine.specs.type_definitions.Entries.{entry_of, integer, marked, denotes_type}
+use Rattle.machine.specs.type_definitions.Faults.{demand, K2, K6}
+use Rattle.machine.specs.type_definitions.Names.{Context, extent, seen, step, along, led_on, ended, reached, through, indexed, is_index, array_value, array_attribute, of_entry, reading_of, is_end}
+use Rattle.machine.specs.type_definitions.Expressions.{faults, inside, behind, way_of, reading_faults, given_names, call_arguments, own_of, next_type, is_variable, is_anonymous, is_traversal, profile_of, result_type, is_in}
+use Rattle.machine.specs.type_definitions.Statements.{source_faults, source_name, source_fits, formal_source, designates, is_source, keeps_constant, is_object_entry, is_formal, is_formal_kind, target_faults, assign_faults, assigned}
+use Rattle.machine.specs.type_definitions.Gathered.{indicated, is_anonymous_indication, declared_number, declared_pos, indicates_type, profile_from}
+use Rattle.machine.specs.type_definitions.Declarations.{indication_faults, is_single, first_pos, first_number, in_package, starting, has_one, initial_faults, object_faults, formal_faults, group_faults, formals_group, formals_faults, front_faults, result_faults, is_traversable}
+use Rattle.machine.specs.typed_tree.Trees.{TypedTree, TypedCode, Name, NoMore as nothing_more}
+use Rattle.machine.specs.typed_tree.Trees as typed
+use Rattle.machine.specs.typed_tree.declared.object.Object.{Object}
+use Rattle.machine.specs.typed_tree.Expressions.{Site, object_number, sub_number, typed_expression, typed_name, typed_steps, typed_step, typed_actuals, typed_imaged, typed_optional, typed_first, called_function, object_type, designating, element}
+use Rattle.machine.specs.typed_tree.Statements.{typed_object, typed_assign, type_read}
+use Rattle.machine.specs.typed_tree.Programs.{DeclaredObject, Home, object_of, formals_of, front_formals, kind_of, entry_kind}
+use Rattle.machine.specs.flow_paths.Instructions.{Declare}
+use Rattle.machine.specs.flow_paths.Objects.{Typing, Signature, object_at, sub_at, is_variable as is_variable_object}
+use Rattle.machine.specs.flow_paths.Objects as flow
+use Rattle.machine.specs.flow_paths.Names.{first, whole, whole_object}
 use Rattle.soundness.specs.TypedLaws.Fine.{Laws, IsMeant, Denotes, AreSuffixes, counts}
 use Rattle.soundness.proofs.TypedLaws.Agreeing.{holds, nil_left, nil_right}
 use Rattle.soundness.proofs.TypedLaws.Readings.{call_of}

@@ -3,28 +3,28 @@
 use Rattle.std.specs.Prelude.{IsTrue}
 use Rattle.std.proofs.Common.{◌≡◌, refl, sym, ap, ◌∙◌, subst, ◌⊎◌, inl, inr, ℕ, ◌<◌, Bool, true, false, not, ◌&&◌, ◌||◌, nat_lt, List, [], ◌∷◌, map, length, filter}
 use Rattle.std.proofs.lemmas.Bool.{ltb-true, lt-ltb, false≢true, true≢false}
-use Rattle.spark_base.specs.Lists.{Has}
-use Rattle.spark_base.proofs.Lists.{Has-append_right, Has-map_from, Has-filter}
-use Rattle.spark_base.specs.declared.position.Pos.{Pos}
-use Rattle.place_names.specs.declared.act.Act.TheVariants as act
-use Rattle.place_names.specs.declared.act.Placed.{Placed}
-use Rattle.place_names.specs.declared.rule.Rule.TheVariants as rule
-use Rattle.place_names.specs.Names.{Name as PlaceName}
-use Rattle.type_definitions.specs.Types.{Table, full}
-use Rattle.typed_tree.specs.declared.object.ObjectKind.{ObjectKind}
-use Rattle.typed_tree.specs.declared.object.ObjectKind.TheVariants as object_kind
-use Rattle.typed_tree.specs.Trees.{TypedTree, Name, NoMore}
-use Rattle.typed_tree.specs.declared.object.Object.{Object}
-use Rattle.typed_tree.specs.Programs.{TypedSub, TypedProgram, text_io}
-use Rattle.flow_paths.specs.declared.report.Effects.{Effects}
-use Rattle.flow_paths.specs.Instructions.{Declare, Assign}
-use Rattle.flow_paths.specs.Objects.{Typing, object_at, is_variable, is_formal, is_formal_kind, is_borrower, is_observer, is_borrowing, is_observing, is_named_access, is_anonymous, is_package_object, view_of}
-use Rattle.flow_paths.specs.Names.{name_of, selectors}
-use Rattle.flow_paths.specs.Acts.{placed, acts_of, before_write, whole_acts}
-use Rattle.flow_paths.specs.Points.{NamedPoint, FlowPoint}
-use Rattle.flow_paths.specs.Laid.{FlowSub, FlowProgram, NamedSub, all_named, sub_points, temporary_object, declared_within, unnumbered, kept_roots, sub_facts, flow_sub, typing_of, flow_typing, flow_program, flow_named}
-use Rattle.flow_paths.specs.Reports.{on_views}
-use Rattle.flow_paths.specs.Views.{ConstantView, of_formal, in_function, changed, is_function, is_in_mode, has_selector, text_report}
+use Rattle.machine.specs.spark_base.Lists.{Has}
+use Rattle.soundness.proofs.Lists.{Has-append_right, Has-map_from, Has-filter}
+use Rattle.machine.specs.spark_base.declared.position.Pos.{Pos}
+use Rattle.machine.specs.place_names.declared.act.Act.TheVariants as act
+use Rattle.machine.specs.place_names.declared.act.Placed.{Placed}
+use Rattle.machine.specs.place_names.declared.rule.Rule.TheVariants as rule
+use Rattle.machine.specs.place_names.Names.{Name as PlaceName}
+use Rattle.machine.specs.type_definitions.Types.{Table, full}
+use Rattle.machine.specs.typed_tree.declared.object.ObjectKind.{ObjectKind}
+use Rattle.machine.specs.typed_tree.declared.object.ObjectKind.TheVariants as object_kind
+use Rattle.machine.specs.typed_tree.Trees.{TypedTree, Name, NoMore}
+use Rattle.machine.specs.typed_tree.declared.object.Object.{Object}
+use Rattle.machine.specs.typed_tree.Programs.{TypedSub, TypedProgram, text_io}
+use Rattle.machine.specs.flow_paths.declared.report.Effects.{Effects}
+use Rattle.machine.specs.flow_paths.Instructions.{Declare, Assign}
+use Rattle.machine.specs.flow_paths.Objects.{Typing, object_at, is_variable, is_formal, is_formal_kind, is_borrower, is_observer, is_borrowing, is_observing, is_named_access, is_anonymous, is_package_object, view_of}
+use Rattle.machine.specs.flow_paths.Names.{name_of, selectors}
+use Rattle.machine.specs.flow_paths.Acts.{placed, acts_of, before_write, whole_acts}
+use Rattle.machine.specs.flow_paths.Points.{NamedPoint, FlowPoint}
+use Rattle.machine.specs.flow_paths.Laid.{FlowSub, FlowProgram, NamedSub, all_named, sub_points, temporary_object, declared_within, unnumbered, kept_roots, sub_facts, flow_sub, typing_of, flow_typing, flow_program, flow_named}
+use Rattle.machine.specs.flow_paths.Reports.{on_views}
+use Rattle.machine.specs.flow_paths.Views.{ConstantView, of_formal, in_function, changed, is_function, is_in_mode, has_selector, text_report}
 use Rattle.machine.specs.Owners.{is_in, is_in_formal}
 use Rattle.soundness.specs.Sound.{Accepted}
 use Rattle.soundness.proofs.Points.{flow_at}

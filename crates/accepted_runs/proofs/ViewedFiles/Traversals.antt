@@ -2,14 +2,14 @@
 -- returned by such functions; and these return null, names, or what such functions give.
 use Rattle.std.proofs.Common.{◌≡◌, refl, sym, ap, ◌∙◌, subst, ◌⊎◌, inl, inr, ℕ, Bool, true, false, List, ◌∷◌, Option, Some, None}
 use Rattle.std.proofs.lemmas.Bool.{false≢true, true≢false}
-use Rattle.spark_base.specs.declared.position.Pos.{Pos}
-use Rattle.type_definitions.specs.declared.table.Shape.{Shape}
-use Rattle.type_definitions.specs.declared.table.Shape.TheVariants as shape
-use Rattle.type_definitions.specs.Types.{full, shape_of, view_of}
-use Rattle.typed_tree.specs.Trees.{TypedTree, Name, Call as CallIn, Component, Designated, Element, NoMore, More}
-use Rattle.typed_tree.specs.Trees as typed
-use Rattle.flow_paths.specs.Instructions.{Declare, Assign, Call, Hold}
-use Rattle.flow_paths.specs.Objects.{Typing, object_at, sub_at, traverses, is_anonymous}
+use Rattle.machine.specs.spark_base.declared.position.Pos.{Pos}
+use Rattle.machine.specs.type_definitions.declared.table.Shape.{Shape}
+use Rattle.machine.specs.type_definitions.declared.table.Shape.TheVariants as shape
+use Rattle.machine.specs.type_definitions.Types.{full, shape_of, view_of}
+use Rattle.machine.specs.typed_tree.Trees.{TypedTree, Name, Call as CallIn, Component, Designated, Element, NoMore, More}
+use Rattle.machine.specs.typed_tree.Trees as typed
+use Rattle.machine.specs.flow_paths.Instructions.{Declare, Assign, Call, Hold}
+use Rattle.machine.specs.flow_paths.Objects.{Typing, object_at, sub_at, traverses, is_anonymous}
 use Rattle.machine.specs.Words.{element_of, component_type}
 use Rattle.soundness.specs.TypedLaws.Fine.{Has, Leads}
 use Rattle.soundness.proofs.TypedLaws.Sound.{matches}

@@ -3,19 +3,19 @@ use Rattle.std.proofs.Common.{◌≡◌, refl, subst, inl, inr, ℕ, ◌+◌, Bo
 use Rattle.std.specs.Prelude.{flat_map}
 use Rattle.std.specs.List.{AllByRecursion}
 use Rattle.std.proofs.lemmas.Bool.{false≢true}
-use Rattle.spark_base.specs.Lists.{Has}
-use Rattle.spark_base.specs.declared.position.Pos.{Pos}
-use Rattle.resolved_tree.specs.Trees.{Code, Incomplete, Private, TypeDecl, Subtype, ConstrainedSubtype, Objects, Numbers, Instance, SubDecl, SubBody, Package, PackageBody, NoMore, More}
-use Rattle.type_definitions.specs.declared.table.Known.{Known}
-use Rattle.type_definitions.specs.Names.{Context}
-use Rattle.type_definitions.specs.Gathered.{declared_number, declared_text, in_subprogram, in_visible, in_hidden}
-use Rattle.type_definitions.specs.Declarations.{in_package, in_body, body_faults, code_faults, front_faults}
-use Rattle.type_definitions.specs.Whole.{outside}
-use Rattle.typed_tree.specs.declared.object.Object.{Object}
-use Rattle.typed_tree.specs.Expressions.{Site}
-use Rattle.typed_tree.specs.Statements.{scope_count, statements}
-use Rattle.typed_tree.specs.Programs.{TypedSub, DeclaredObject, Home, objects_in, formals_of, front_formals, local, in_package as packaged, package_text, subs_in, elaborated, placed, over_units, site_of}
-use Rattle.flow_paths.specs.Objects.{Typing, Signature}
+use Rattle.machine.specs.spark_base.Lists.{Has}
+use Rattle.machine.specs.spark_base.declared.position.Pos.{Pos}
+use Rattle.machine.specs.resolved_tree.Trees.{Code, Incomplete, Private, TypeDecl, Subtype, ConstrainedSubtype, Objects, Numbers, Instance, SubDecl, SubBody, Package, PackageBody, NoMore, More}
+use Rattle.machine.specs.type_definitions.declared.table.Known.{Known}
+use Rattle.machine.specs.type_definitions.Names.{Context}
+use Rattle.machine.specs.type_definitions.Gathered.{declared_number, declared_text, in_subprogram, in_visible, in_hidden}
+use Rattle.machine.specs.type_definitions.Declarations.{in_package, in_body, body_faults, code_faults, front_faults}
+use Rattle.machine.specs.type_definitions.Whole.{outside}
+use Rattle.machine.specs.typed_tree.declared.object.Object.{Object}
+use Rattle.machine.specs.typed_tree.Expressions.{Site}
+use Rattle.machine.specs.typed_tree.Statements.{scope_count, statements}
+use Rattle.machine.specs.typed_tree.Programs.{TypedSub, DeclaredObject, Home, objects_in, formals_of, front_formals, local, in_package as packaged, package_text, subs_in, elaborated, placed, over_units, site_of}
+use Rattle.machine.specs.flow_paths.Objects.{Typing, Signature}
 use Rattle.soundness.specs.TypedLaws.Fine.{Laws}
 use Rattle.soundness.proofs.TypedLaws.Agreeing.{nil_left, nil_right}
 use Rattle.soundness.specs.TypedLaws.TypedPoints.Meant.{IsMeantCode, AreMeantBodies, AreMeantObjects}

@@ -2,27 +2,27 @@
 use Rattle.std.proofs.Common.{◌≡◌, refl, ℕ, ◌+◌, Bool, true, false, ◌&&◌, List, [], ◌∷◌, ◌++◌, None}
 use Rattle.std.specs.List.{AllByRecursion}
 use Rattle.std.proofs.lemmas.Bool.{false≢true}
-use Rattle.place_names.specs.declared.act.Mode.TheVariants as mode
-use Rattle.resolved_tree.specs.Trees.{Tree, Code, Incomplete, Private, TypeDecl, Subtype, ConstrainedSubtype, Objects, Numbers, Instance, SubDecl, SubBody, Package, PackageBody, Skip, Assign, Call, Exit, Return, If, Branch, Case, When, Loop, While, For, Block, NoMore, More, code_items}
-use Rattle.resolved_tree.specs.Trees as resolved
-use Rattle.type_definitions.specs.declared.table.Entry.{Entry}
-use Rattle.type_definitions.specs.declared.table.Entry.TheVariants as entry
-use Rattle.type_definitions.specs.declared.table.Predefined.{Predefined}
-use Rattle.type_definitions.specs.declared.table.Predefined.TheVariants as predefined
-use Rattle.type_definitions.specs.declared.judgement.Where.TheVariants as stands
-use Rattle.type_definitions.specs.Types.{Table, full, is_scalar}
-use Rattle.type_definitions.specs.Entries.{entry_of, boolean}
-use Rattle.type_definitions.specs.Names.{Context}
-use Rattle.type_definitions.specs.Expressions.{faults, own_type, call_arguments}
-use Rattle.type_definitions.specs.Statements.{target_faults, range_faults, type_or_integer, is_one_choice, coverage}
-use Rattle.type_definitions.specs.Gathered.{declared_number, parameter_type}
-use Rattle.type_definitions.specs.Declarations.{in_package, code_faults, alternatives_faults, alternative_faults, choices_faults, selector_faults, choices_of, is_last}
-use Rattle.typed_tree.specs.Trees.{TypedCode, typed_code_list}
-use Rattle.typed_tree.specs.declared.object.Object.{Object}
-use Rattle.typed_tree.specs.Expressions.{Site}
-use Rattle.typed_tree.specs.Statements.{scope_count, statements, typed_call, call_of, predefined_call, typed_body}
-use Rattle.typed_tree.specs.Programs.{DeclaredObject, Home, objects_in}
-use Rattle.flow_paths.specs.Objects.{Typing, Signature}
+use Rattle.machine.specs.place_names.declared.act.Mode.TheVariants as mode
+use Rattle.machine.specs.resolved_tree.Trees.{Tree, Code, Incomplete, Private, TypeDecl, Subtype, ConstrainedSubtype, Objects, Numbers, Instance, SubDecl, SubBody, Package, PackageBody, Skip, Assign, Call, Exit, Return, If, Branch, Case, When, Loop, While, For, Block, NoMore, More, code_items}
+use Rattle.machine.specs.resolved_tree.Trees as resolved
+use Rattle.machine.specs.type_definitions.declared.table.Entry.{Entry}
+use Rattle.machine.specs.type_definitions.declared.table.Entry.TheVariants as entry
+use Rattle.machine.specs.type_definitions.declared.table.Predefined.{Predefined}
+use Rattle.machine.specs.type_definitions.declared.table.Predefined.TheVariants as predefined
+use Rattle.machine.specs.type_definitions.declared.judgement.Where.TheVariants as stands
+use Rattle.machine.specs.type_definitions.Types.{Table, full, is_scalar}
+use Rattle.machine.specs.type_definitions.Entries.{entry_of, boolean}
+use Rattle.machine.specs.type_definitions.Names.{Context}
+use Rattle.machine.specs.type_definitions.Expressions.{faults, own_type, call_arguments}
+use Rattle.machine.specs.type_definitions.Statements.{target_faults, range_faults, type_or_integer, is_one_choice, coverage}
+use Rattle.machine.specs.type_definitions.Gathered.{declared_number, parameter_type}
+use Rattle.machine.specs.type_definitions.Declarations.{in_package, code_faults, alternatives_faults, alternative_faults, choices_faults, selector_faults, choices_of, is_last}
+use Rattle.machine.specs.typed_tree.Trees.{TypedCode, typed_code_list}
+use Rattle.machine.specs.typed_tree.declared.object.Object.{Object}
+use Rattle.machine.specs.typed_tree.Expressions.{Site}
+use Rattle.machine.specs.typed_tree.Statements.{scope_count, statements, typed_call, call_of, predefined_call, typed_body}
+use Rattle.machine.specs.typed_tree.Programs.{DeclaredObject, Home, objects_in}
+use Rattle.machine.specs.flow_paths.Objects.{Typing, Signature}
 use Rattle.soundness.specs.TypedLaws.Fine.{Laws}
 use Rattle.soundness.proofs.TypedLaws.Agreeing.{nil_left, nil_right}
 use Rattle.soundness.specs.TypedLaws.TypedPoints.Meant.{IsMeantCode, AreAlternatives}

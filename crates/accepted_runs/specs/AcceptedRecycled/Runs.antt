@@ -1,9 +1,9 @@
 -- What is said of runs over a heap that uses its slots again.
 use Rattle.std.specs.Prelude.{◌≡◌, ◌⊎◌, ℕ, List, Some}
-use Rattle.flow_paths.specs.Laid.{FlowProgram, flow_typing}
+use Rattle.machine.specs.flow_paths.Laid.{FlowProgram, flow_typing}
 use Rattle.machine.specs.States.{sub_of}
 use Rattle.machine.specs.Run.{Run, run}
-use Rattle.slot_heap.specs.Heaps.{slot_count}
+use Rattle.numbered_cells.specs.slot_heap.Heaps.{slot_count}
 use Rattle.numbered_cells.specs.Peaks.{peak_of}
 use Rattle.run_codes.specs.Points.{is_declaring, ran_of}
 use Rattle.run_codes.specs.Programs.{Program, lowered_program}

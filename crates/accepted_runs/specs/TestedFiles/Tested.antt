@@ -1,6 +1,6 @@
 -- What the tests before a run say of a program.
 use Rattle.std.specs.Prelude.{◌≡◌, ◌<◌, ℕ, true, length, Some}
-use Rattle.flow_paths.specs.Laid.{FlowProgram}
+use Rattle.machine.specs.flow_paths.Laid.{FlowProgram}
 use Rattle.machine.specs.States.{sub_of}
 use Rattle.run_points.specs.Frames.{IsCallable}
 use Rattle.run_ready.specs.Tests.{ascend}

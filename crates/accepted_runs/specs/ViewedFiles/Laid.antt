@@ -1,10 +1,10 @@
 -- Bodies whose objects and scopes have the numbers of their places in the text.
 use Rattle.std.specs.Prelude.{◌≡◌, ◌≤◌, ℕ, true, false, List, nat_lt}
-use Rattle.spark_base.specs.declared.position.Pos.{Pos}
-use Rattle.resolved_tree.specs.Trees.{Code, SubBody}
-use Rattle.typed_tree.specs.Expressions.{Site}
-use Rattle.typed_tree.specs.Programs.{TypedSub, Home, objects_in, scopes_in, typed_sub}
-use Rattle.flow_paths.specs.Objects.{Typing}
+use Rattle.machine.specs.spark_base.declared.position.Pos.{Pos}
+use Rattle.machine.specs.resolved_tree.Trees.{Code, SubBody}
+use Rattle.machine.specs.typed_tree.Expressions.{Site}
+use Rattle.machine.specs.typed_tree.Programs.{TypedSub, Home, objects_in, scopes_in, typed_sub}
+use Rattle.machine.specs.flow_paths.Objects.{Typing}
 use Rattle.settled_types.specs.OrderLaws.ScopeLaws.Code.{body_seen}
 use Rattle.settled_types.specs.OrderLaws.Written.{are_declarations, are_statements}
 use Rattle.accepted_runs.specs.ViewedFiles.Places.{AreAt, AreAround}

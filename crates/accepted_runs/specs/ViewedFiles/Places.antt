@@ -1,8 +1,8 @@
 -- The numbers of objects and scopes by their places in the text.
 use Rattle.std.specs.Prelude.{◌≡◌, ℕ, suc, List, [], ◌∷◌, get_or}
-use Rattle.typed_tree.specs.Expressions.{Site, object_number}
-use Rattle.typed_tree.specs.Programs.{DeclaredObject}
-use Rattle.flow_paths.specs.Objects.{Typing, object_at}
+use Rattle.machine.specs.typed_tree.Expressions.{Site, object_number}
+use Rattle.machine.specs.typed_tree.Programs.{DeclaredObject}
+use Rattle.machine.specs.flow_paths.Objects.{Typing, object_at}
 
 -- Objects have these numbers, from k on, and are those of the program.
 abbrev pub AreAt : Site → Typing → ℕ → List DeclaredObject → Type 0

@@ -1,11 +1,11 @@
 -- Code in which views are declared and assigned with names, or with what a traversal function gives.
 use Rattle.std.specs.Prelude.{Bool, true, not, ◌&&◌, ◌||◌}
-use Rattle.typed_tree.specs.Trees.{TypedCode}
-use Rattle.typed_tree.specs.Trees as typed
-use Rattle.flow_paths.specs.Instructions.{Instruction, Declare, Assign}
-use Rattle.flow_paths.specs.Instructions as instruction
-use Rattle.flow_paths.specs.Objects.{Typing, is_anonymous, view_of}
-use Rattle.flow_paths.specs.Names.{first, whole}
+use Rattle.machine.specs.typed_tree.Trees.{TypedCode}
+use Rattle.machine.specs.typed_tree.Trees as typed
+use Rattle.machine.specs.flow_paths.Instructions.{Instruction, Declare, Assign}
+use Rattle.machine.specs.flow_paths.Instructions as instruction
+use Rattle.machine.specs.flow_paths.Objects.{Typing, is_anonymous, view_of}
+use Rattle.machine.specs.flow_paths.Names.{first, whole}
 use Rattle.accepted_runs.specs.ViewedFiles.ViewLaws.InOrder.{gives_view, is_one_name_of, is_any, stores_name}
 
 -- As `fits` has it, without an order of objects.

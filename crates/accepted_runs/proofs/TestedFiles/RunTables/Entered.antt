@@ -3,15 +3,15 @@
 use Rattle.std.proofs.Common.{◌≡◌, refl, sym, ap, ◌∙◌, subst, inl, inr, ℕ, suc, ◌+◌, ◌<◌, true, false, not, ◌&&◌, List, [], ◌∷◌, ◌++◌, map, length, get_or, arith, Some, None}
 use Rattle.std.specs.Prelude.{is_some}
 use Rattle.std.proofs.lemmas.List.{length-map}
-use Rattle.spark_base.specs.Lists.{Has}
-use Rattle.resolved_tree.specs.Trees.{Code}
-use Rattle.type_definitions.specs.declared.table.Known.{Known}
-use Rattle.type_definitions.specs.Types.{Table}
-use Rattle.typed_tree.specs.declared.object.Object.{Object}
-use Rattle.typed_tree.specs.Expressions.{Site}
-use Rattle.typed_tree.specs.Programs.{TypedSub, TypedProgram, DeclaredObject, program_objects, text_io, site_of, subs_in, elaboration, over_units, typed_program}
-use Rattle.flow_paths.specs.Objects.{Typing, is_package_object, is_state}
-use Rattle.flow_paths.specs.Laid.{typing_of, declared_within}
+use Rattle.machine.specs.spark_base.Lists.{Has}
+use Rattle.machine.specs.resolved_tree.Trees.{Code}
+use Rattle.machine.specs.type_definitions.declared.table.Known.{Known}
+use Rattle.machine.specs.type_definitions.Types.{Table}
+use Rattle.machine.specs.typed_tree.declared.object.Object.{Object}
+use Rattle.machine.specs.typed_tree.Expressions.{Site}
+use Rattle.machine.specs.typed_tree.Programs.{TypedSub, TypedProgram, DeclaredObject, program_objects, text_io, site_of, subs_in, elaboration, over_units, typed_program}
+use Rattle.machine.specs.flow_paths.Objects.{Typing, is_package_object, is_state}
+use Rattle.machine.specs.flow_paths.Laid.{typing_of, declared_within}
 use Rattle.settled_types.specs.OrderLaws.ScopeLaws.Code.{Once}
 use Rattle.settled_types.specs.OrderLaws.ScopeLaws.Code as code
 use Rattle.settled_types.proofs.OrderLaws.ScopeLaws.Lists.{all_has}

@@ -3,16 +3,16 @@ use Rattle.std.proofs.Common.{◌≡◌, inl, inr, ℕ, zero, suc, ◌+◌, ◌<
 use Rattle.std.specs.Prelude.{◌==◌, ◌&&◌, not, is_some, flat_map, reverse}
 use Rattle.std.specs.List.{list_any}
 use Rattle.std.proofs.lemmas.List.{length-map}
-use Rattle.spark_base.specs.Lists.{Has}
-use Rattle.type_definitions.specs.Types.{Table}
-use Rattle.typed_tree.specs.declared.object.Object.{Object}
-use Rattle.typed_tree.specs.Programs.{TypedSub, TypedProgram, text_io}
-use Rattle.flow_paths.specs.Objects.{Typing, object_at, is_state}
-use Rattle.flow_paths.specs.Instructions.{Finish, Fall}
-use Rattle.flow_paths.specs.Points.{PointName, NamedPoint, row_at, point, entry, flow_point}
-use Rattle.flow_paths.specs.Layout.{ending, ends, laid}
-use Rattle.flow_paths.specs.Prep.{Setting}
-use Rattle.flow_paths.specs.Laid.{Temporary, temporary_object, FlowSub, FlowProgram, NamedSub, typing_of, flow_typing, around_body, scope_at_end, function_end, procedure_end, body_points, sub_points, sub_temporaries, named_sub, named_subs, all_named, flow_sub, flow_named, flow_program, number_in, kept_roots, sub_facts, frame_of, numbers_from}
+use Rattle.machine.specs.spark_base.Lists.{Has}
+use Rattle.machine.specs.type_definitions.Types.{Table}
+use Rattle.machine.specs.typed_tree.declared.object.Object.{Object}
+use Rattle.machine.specs.typed_tree.Programs.{TypedSub, TypedProgram, text_io}
+use Rattle.machine.specs.flow_paths.Objects.{Typing, object_at, is_state}
+use Rattle.machine.specs.flow_paths.Instructions.{Finish, Fall}
+use Rattle.machine.specs.flow_paths.Points.{PointName, NamedPoint, row_at, point, entry, flow_point}
+use Rattle.machine.specs.flow_paths.Layout.{ending, ends, laid}
+use Rattle.machine.specs.flow_paths.Prep.{Setting}
+use Rattle.machine.specs.flow_paths.Laid.{Temporary, temporary_object, FlowSub, FlowProgram, NamedSub, typing_of, flow_typing, around_body, scope_at_end, function_end, procedure_end, body_points, sub_points, sub_temporaries, named_sub, named_subs, all_named, flow_sub, flow_named, flow_program, number_in, kept_roots, sub_facts, frame_of, numbers_from}
 use Rattle.machine.specs.States.{no_sub, sub_of}
 use Rattle.settled_types.specs.OrderLaws.ScopeLaws.Code.{Once}
 use Rattle.settled_types.specs.OrderLaws.ReadyLaws.InOrder.{IsSub}

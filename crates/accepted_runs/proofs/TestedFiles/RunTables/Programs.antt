@@ -1,11 +1,11 @@
 -- What runs ask of the tables of programs without a fault of typing.
 use Rattle.std.proofs.Common.{◌≡◌, ◌≤◌, ℕ, [], ◌∷◌, true, false, ap, ◌∙◌, arith, IsTrue, None, slice_get}
 use Rattle.std.specs.Prelude.{codes}
-use Rattle.resolved_tree.specs.Trees.{Program}
-use Rattle.type_definitions.specs.declared.table.Shape.TheVariants as shape
-use Rattle.type_definitions.specs.Types.{shape_found, shape_of, meant_type_found, full, view_of, words}
-use Rattle.type_definitions.specs.Entries.{boolean}
-use Rattle.type_definitions.specs.Whole.{type_fault, known_of, predefined_types}
+use Rattle.machine.specs.resolved_tree.Trees.{Program}
+use Rattle.machine.specs.type_definitions.declared.table.Shape.TheVariants as shape
+use Rattle.machine.specs.type_definitions.Types.{shape_found, shape_of, meant_type_found, full, view_of, words}
+use Rattle.machine.specs.type_definitions.Entries.{boolean}
+use Rattle.machine.specs.type_definitions.Whole.{type_fault, known_of, predefined_types}
 use Rattle.type_sizes.specs.Formed.{all_formed}
 use Rattle.type_sizes.proofs.Limits.{within_limits}
 use Rattle.settled_types.specs.Orderly.{IsOrderly}

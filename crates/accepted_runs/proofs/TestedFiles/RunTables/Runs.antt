@@ -6,10 +6,10 @@ use Rattle.ada_tree.specs.declared.unit.SourceUnit.{SourceUnit}
 use Rattle.name_events.specs.Identified.{identified}
 use Rattle.name_events.specs.Outline.{source_events}
 use Rattle.name_events.specs.Faults.{name_fault}
-use Rattle.resolved_tree.specs.Trees.{Program}
-use Rattle.type_definitions.specs.Types.{Table}
-use Rattle.type_definitions.specs.Entries.{boolean}
-use Rattle.type_definitions.specs.Whole.{outside, type_fault, known_of}
+use Rattle.machine.specs.resolved_tree.Trees.{Program}
+use Rattle.machine.specs.type_definitions.Types.{Table}
+use Rattle.machine.specs.type_definitions.Entries.{boolean}
+use Rattle.machine.specs.type_definitions.Whole.{outside, type_fault, known_of}
 use Rattle.type_sizes.specs.Formed.{all_formed}
 use Rattle.typing_steps.specs.Programs.{program_of}
 use Rattle.type_rules.proofs.Formed.{files_formed}
@@ -21,8 +21,8 @@ use Rattle.settled_types.specs.FilePositions.Order.{Ascends, event_positions}
 use Rattle.settled_types.specs.FilePositions.Texts.{AreParsed}
 use Rattle.settled_types.proofs.FilePositions.Ascending.{events_ascend}
 use Rattle.settled_types.proofs.FilePositions.Main.{files_apart, files_ended}
-use Rattle.typed_tree.specs.Programs.{TypedProgram}
-use Rattle.flow_paths.specs.Laid.{FlowProgram, flow_program}
+use Rattle.machine.specs.typed_tree.Programs.{TypedProgram}
+use Rattle.machine.specs.flow_paths.Laid.{FlowProgram, flow_program}
 use Rattle.machine.specs.Run as machine_run
 use Rattle.machine.specs.Typed.{Position, sorts}
 use Rattle.settled_types.proofs.NamedFiles.Library.{procedures}

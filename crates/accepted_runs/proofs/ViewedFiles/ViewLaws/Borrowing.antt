@@ -1,21 +1,21 @@
 -- The acts that borrow are those of declarations: of a borrower, from the name that it is declared with.
 use Rattle.std.proofs.Common.{◌≡◌, refl, sym, ap, ◌∙◌, inl, inr, ℕ, Bool, true, false, List, [], ◌∷◌, ◌++◌, Option, None, Some, if◌then◌else◌}
 use Rattle.std.proofs.lemmas.Bool.{false≢true}
-use Rattle.spark_base.specs.Lists.{Has}
-use Rattle.spark_base.specs.declared.position.Pos.{Pos}
-use Rattle.spark_base.proofs.Lists.{Has-append_cases}
-use Rattle.place_names.specs.Names.{Name as PlaceName}
-use Rattle.place_names.specs.declared.act.Act.{Act}
-use Rattle.place_names.specs.declared.act.Act.TheVariants as act
-use Rattle.place_names.specs.declared.act.Mode.TheVariants as mode
-use Rattle.place_names.specs.declared.act.Placed.{Placed}
-use Rattle.type_definitions.specs.Types.{parts, is_owning}
-use Rattle.typed_tree.specs.Trees.{TypedTree, Name, Component, Designated, Element, Image, Parens, Unary, Binary, Short, IsNull, Aggregate, Alike, New, More}
-use Rattle.typed_tree.specs.Trees as typed
-use Rattle.flow_paths.specs.Instructions.{Instruction, Skip, Declare, Assign, Call, Output, Input, Release, Test, Choose, Start, Next, Evaluate, LeaveLoop, Hold, EndScope, Finish, Fall}
-use Rattle.flow_paths.specs.Objects.{Typing, sub_at, is_borrower, is_observer, traverses, Passing, ByValue, Traversed, Place, passings}
-use Rattle.flow_paths.specs.Names.{Written, name_of, written, first, source, whole, has_call}
-use Rattle.flow_paths.specs.Acts.{acts_in, acts_of, used, placed, naming, observe, reborrow, target_pos, index_acts, source_acts, stored_acts, assigned_to, declared_acts, returned_acts, gives_variable, actual_values, actual_act, actual_acts}
+use Rattle.machine.specs.spark_base.Lists.{Has}
+use Rattle.machine.specs.spark_base.declared.position.Pos.{Pos}
+use Rattle.soundness.proofs.Lists.{Has-append_cases}
+use Rattle.machine.specs.place_names.Names.{Name as PlaceName}
+use Rattle.machine.specs.place_names.declared.act.Act.{Act}
+use Rattle.machine.specs.place_names.declared.act.Act.TheVariants as act
+use Rattle.machine.specs.place_names.declared.act.Mode.TheVariants as mode
+use Rattle.machine.specs.place_names.declared.act.Placed.{Placed}
+use Rattle.machine.specs.type_definitions.Types.{parts, is_owning}
+use Rattle.machine.specs.typed_tree.Trees.{TypedTree, Name, Component, Designated, Element, Image, Parens, Unary, Binary, Short, IsNull, Aggregate, Alike, New, More}
+use Rattle.machine.specs.typed_tree.Trees as typed
+use Rattle.machine.specs.flow_paths.Instructions.{Instruction, Skip, Declare, Assign, Call, Output, Input, Release, Test, Choose, Start, Next, Evaluate, LeaveLoop, Hold, EndScope, Finish, Fall}
+use Rattle.machine.specs.flow_paths.Objects.{Typing, sub_at, is_borrower, is_observer, traverses, Passing, ByValue, Traversed, Place, passings}
+use Rattle.machine.specs.flow_paths.Names.{Written, name_of, written, first, source, whole, has_call}
+use Rattle.machine.specs.flow_paths.Acts.{acts_in, acts_of, used, placed, naming, observe, reborrow, target_pos, index_acts, source_acts, stored_acts, assigned_to, declared_acts, returned_acts, gives_variable, actual_values, actual_act, actual_acts}
 
 -- ---- acts that don't borrow
 

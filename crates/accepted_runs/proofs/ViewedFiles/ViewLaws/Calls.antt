@@ -1,19 +1,19 @@
 -- The acts of each point, those of calls among them.
 use Rattle.std.proofs.Common.{Bool, not, is_some, ◌≡◌, refl, sym, ap, subst, ◌⊎◌, inl, inr, ℕ, true, false, ◌||◌, List, ◌∷◌, map, ◌++◌, [], Option, Some}
-use Rattle.spark_base.specs.Lists.{Has}
-use Rattle.spark_base.specs.declared.position.Pos.{Pos}
-use Rattle.spark_base.proofs.Lists.{Has-append_cases, Has-append_right}
-use Rattle.place_names.specs.declared.act.Mode.{Mode}
-use Rattle.place_names.specs.declared.act.Mode.TheVariants as mode
-use Rattle.place_names.specs.declared.act.Placed.{Placed}
-use Rattle.type_definitions.specs.Types.{full, is_owning}
-use Rattle.typed_tree.specs.Trees.{TypedTree, Name, More}
-use Rattle.flow_paths.specs.Instructions.{Instruction, Call}
-use Rattle.flow_paths.specs.Objects.{Typing, object_at, is_formal, is_variable, is_anonymous, traverses, view_of}
-use Rattle.flow_paths.specs.Views.{traversed_formal}
-use Rattle.flow_paths.specs.Acts.{acts_of, index_acts, actual_values, actual_acts}
-use Rattle.flow_paths.specs.Points.{FlowPoint}
-use Rattle.flow_paths.specs.Laid.{FlowSub, FlowProgram, flow_typing}
+use Rattle.machine.specs.spark_base.Lists.{Has}
+use Rattle.machine.specs.spark_base.declared.position.Pos.{Pos}
+use Rattle.soundness.proofs.Lists.{Has-append_cases, Has-append_right}
+use Rattle.machine.specs.place_names.declared.act.Mode.{Mode}
+use Rattle.machine.specs.place_names.declared.act.Mode.TheVariants as mode
+use Rattle.machine.specs.place_names.declared.act.Placed.{Placed}
+use Rattle.machine.specs.type_definitions.Types.{full, is_owning}
+use Rattle.machine.specs.typed_tree.Trees.{TypedTree, Name, More}
+use Rattle.machine.specs.flow_paths.Instructions.{Instruction, Call}
+use Rattle.machine.specs.flow_paths.Objects.{Typing, object_at, is_formal, is_variable, is_anonymous, traverses, view_of}
+use Rattle.machine.specs.flow_paths.Views.{traversed_formal}
+use Rattle.machine.specs.flow_paths.Acts.{acts_of, index_acts, actual_values, actual_acts}
+use Rattle.machine.specs.flow_paths.Points.{FlowPoint}
+use Rattle.machine.specs.flow_paths.Laid.{FlowSub, FlowProgram, flow_typing}
 use Rattle.machine.specs.States.{sub_of}
 use Rattle.soundness.specs.Typed.{OwnsByShape}
 use Rattle.soundness.proofs.Successors.{call_or}

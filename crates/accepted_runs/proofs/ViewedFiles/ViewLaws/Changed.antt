@@ -4,24 +4,24 @@ use Rattle.std.specs.Prelude.{IsTrue}
 use Rattle.std.specs.List.{list_any}
 use Rattle.std.proofs.Common.{◌≡◌, refl, sym, ap, ◌∙◌, subst, ◌⊎◌, inl, inr, ℕ, Bool, true, false, not, ◌&&◌, ◌||◌, ◌==◌, eq-eqb, List, [], ◌∷◌, ◌++◌, Option, Some, None, is_some}
 use Rattle.std.proofs.lemmas.Bool.{false≢true, true≢false}
-use Rattle.spark_base.specs.Lists.{Has}
-use Rattle.spark_base.proofs.Lists.{Has-map}
-use Rattle.place_names.specs.declared.act.Act.{Act}
-use Rattle.place_names.specs.declared.act.Act.TheVariants as act
-use Rattle.place_names.specs.declared.act.Placed.{Placed}
-use Rattle.place_names.specs.declared.rule.Rule.TheVariants as rule
-use Rattle.place_names.specs.declared.selector.Sel.{Sel}
-use Rattle.place_names.specs.declared.selector.Sel.TheVariants as sel
-use Rattle.place_names.specs.Names.{Name as PlaceName, extend}
-use Rattle.type_definitions.specs.Types.{Table, is_nil, is_owning}
-use Rattle.typed_tree.specs.Programs.{TypedProgram}
-use Rattle.flow_paths.specs.declared.report.Effects.{Effects}
-use Rattle.flow_paths.specs.Objects.{Typing, object_at, is_borrower, is_formal, is_named_access, is_observer, is_anonymous, is_package_object, has_scope_end, view_of}
-use Rattle.flow_paths.specs.Acts.{acts_of, gives_variable}
-use Rattle.flow_paths.specs.Points.{NamedPoint, FlowPoint}
-use Rattle.flow_paths.specs.Laid.{FlowSub, FlowProgram, NamedSub, signature, kept_roots, sub_facts, flow_sub, typing_of, flow_typing, flow_program, flow_named}
-use Rattle.flow_paths.specs.Reports.{on_views}
-use Rattle.flow_paths.specs.Views.{changes, lends, ConstantView, holds_loans, of_formal, in_function, changed, lent, MayBorrow, directly, through, is_function, is_in_mode, has_selector, text_report}
+use Rattle.machine.specs.spark_base.Lists.{Has}
+use Rattle.soundness.proofs.Lists.{Has-map}
+use Rattle.machine.specs.place_names.declared.act.Act.{Act}
+use Rattle.machine.specs.place_names.declared.act.Act.TheVariants as act
+use Rattle.machine.specs.place_names.declared.act.Placed.{Placed}
+use Rattle.machine.specs.place_names.declared.rule.Rule.TheVariants as rule
+use Rattle.machine.specs.place_names.declared.selector.Sel.{Sel}
+use Rattle.machine.specs.place_names.declared.selector.Sel.TheVariants as sel
+use Rattle.machine.specs.place_names.Names.{Name as PlaceName, extend}
+use Rattle.machine.specs.type_definitions.Types.{Table, is_nil, is_owning}
+use Rattle.machine.specs.typed_tree.Programs.{TypedProgram}
+use Rattle.machine.specs.flow_paths.declared.report.Effects.{Effects}
+use Rattle.machine.specs.flow_paths.Objects.{Typing, object_at, is_borrower, is_formal, is_named_access, is_observer, is_anonymous, is_package_object, has_scope_end, view_of}
+use Rattle.machine.specs.flow_paths.Acts.{acts_of, gives_variable}
+use Rattle.machine.specs.flow_paths.Points.{NamedPoint, FlowPoint}
+use Rattle.machine.specs.flow_paths.Laid.{FlowSub, FlowProgram, NamedSub, signature, kept_roots, sub_facts, flow_sub, typing_of, flow_typing, flow_program, flow_named}
+use Rattle.machine.specs.flow_paths.Reports.{on_views}
+use Rattle.machine.specs.flow_paths.Views.{changes, lends, ConstantView, holds_loans, of_formal, in_function, changed, lent, MayBorrow, directly, through, is_function, is_in_mode, has_selector, text_report}
 use Rattle.machine.specs.Owners.{is_in, is_in_formal}
 use Rattle.soundness.specs.Seen.{is_view_formal}
 use Rattle.soundness.proofs.Points.{flow_at}

@@ -1,7 +1,7 @@
 -- Whether an instruction declares an object, which one, and with what.
 use Rattle.std.specs.Prelude.{ℕ, Bool, true, false}
-use Rattle.typed_tree.specs.Trees.{TypedTree}
-use Rattle.flow_paths.specs.Instructions.{Instruction, Declare}
+use Rattle.machine.specs.typed_tree.Trees.{TypedTree}
+use Rattle.machine.specs.flow_paths.Instructions.{Instruction, Declare}
 
 abbrev pub is_declare : Instruction → Bool
 is_declare (Declare x v) = true

@@ -2,7 +2,7 @@
 -- encloses that, too, and no scope encloses one with a smaller number.
 use Rattle.std.proofs.Common.{◌≡◌, refl, subst, ◌⊎◌, inl, inr, ℕ, zero, suc, ◌≤◌, ◌<◌, Bool, true, false, ◌||◌, ◌==◌, eqb-true, eq-eqb, List, [], ◌∷◌, length, get_or, arith}
 use Rattle.std.proofs.lemmas.Bool.{cases_lt, cases_eq, false≢true}
-use Rattle.flow_paths.specs.Views.{encloses, encloses_within}
+use Rattle.machine.specs.flow_paths.Views.{encloses, encloses_within}
 
 either : (a b : Bool) → a || b ≡ true → (a ≡ true) ⊎ (b ≡ true)
 either true b e = inl refl

@@ -1,32 +1,32 @@
 -- What is changed or lent may be: it isn't named through what only sees.
 use Rattle.std.proofs.Common.{◌≡◌, refl, sym, ap, ◌∙◌, subst, inl, inr, ℕ, Bool, true, false, not, ◌&&◌, ◌||◌, ◌<◌, arith, List, [], ◌∷◌, map, length, Option, Some, is_some}
 use Rattle.std.proofs.lemmas.Bool.{false≢true, true≢false}
-use Rattle.spark_base.specs.declared.position.Pos.{Pos}
-use Rattle.spark_base.specs.Lists.{Has}
-use Rattle.spark_base.proofs.Lists.{Has-append_left, Has-append_right, Has-map, Has-map_from}
-use Rattle.place_names.specs.declared.act.Act.{Act}
-use Rattle.place_names.specs.declared.act.Act.TheVariants as act
-use Rattle.place_names.specs.declared.act.Mode.{Mode}
-use Rattle.place_names.specs.declared.act.Mode.TheVariants as mode
-use Rattle.place_names.specs.declared.act.Placed.{Placed}
-use Rattle.place_names.specs.declared.rule.Rule.TheVariants as rule
-use Rattle.place_names.specs.declared.selector.Sel.TheVariants as sel
-use Rattle.place_names.specs.Names.{Name as PlaceName, extend}
-use Rattle.type_definitions.specs.declared.table.Shape.{Shape}
-use Rattle.type_definitions.specs.declared.table.Shape.TheVariants as shape
-use Rattle.type_definitions.specs.Types.{Table, shape_of, is_nil, is_owning}
-use Rattle.type_definitions.specs.Types as types
-use Rattle.typed_tree.specs.Trees.{TypedTree, Name, Component, Designated, Element, NoMore, More}
-use Rattle.typed_tree.specs.Programs.{TypedProgram}
-use Rattle.flow_paths.specs.declared.report.Effects.{Effects}
-use Rattle.flow_paths.specs.Instructions.{Call, Input}
-use Rattle.flow_paths.specs.Objects.{Typing, Signature, passing_by, passings, object_at, sub_at, is_borrower, is_formal, is_named_access, is_observer, is_anonymous, is_package_object, has_scope_end, view_of}
-use Rattle.flow_paths.specs.Names.{selectors, name_of}
-use Rattle.flow_paths.specs.Acts.{placed, acts_in, acts_of, actual_values, actual_act, actual_acts}
-use Rattle.flow_paths.specs.Points.{NamedPoint, FlowPoint}
-use Rattle.flow_paths.specs.Laid.{FlowSub, FlowProgram, NamedSub, kept_roots, sub_facts, flow_sub, typing_of, flow_typing, flow_program, flow_named}
-use Rattle.flow_paths.specs.Reports.{on_views}
-use Rattle.flow_paths.specs.Views.{changes, lends, ConstantView, holds_loans, of_observer, of_formal, in_function, of_borrower, changed, lent, MayBorrow, directly, through, is_function, is_in_mode, has_selector, text_report}
+use Rattle.machine.specs.spark_base.declared.position.Pos.{Pos}
+use Rattle.machine.specs.spark_base.Lists.{Has}
+use Rattle.soundness.proofs.Lists.{Has-append_left, Has-append_right, Has-map, Has-map_from}
+use Rattle.machine.specs.place_names.declared.act.Act.{Act}
+use Rattle.machine.specs.place_names.declared.act.Act.TheVariants as act
+use Rattle.machine.specs.place_names.declared.act.Mode.{Mode}
+use Rattle.machine.specs.place_names.declared.act.Mode.TheVariants as mode
+use Rattle.machine.specs.place_names.declared.act.Placed.{Placed}
+use Rattle.machine.specs.place_names.declared.rule.Rule.TheVariants as rule
+use Rattle.machine.specs.place_names.declared.selector.Sel.TheVariants as sel
+use Rattle.machine.specs.place_names.Names.{Name as PlaceName, extend}
+use Rattle.machine.specs.type_definitions.declared.table.Shape.{Shape}
+use Rattle.machine.specs.type_definitions.declared.table.Shape.TheVariants as shape
+use Rattle.machine.specs.type_definitions.Types.{Table, shape_of, is_nil, is_owning}
+use Rattle.machine.specs.type_definitions.Types as types
+use Rattle.machine.specs.typed_tree.Trees.{TypedTree, Name, Component, Designated, Element, NoMore, More}
+use Rattle.machine.specs.typed_tree.Programs.{TypedProgram}
+use Rattle.machine.specs.flow_paths.declared.report.Effects.{Effects}
+use Rattle.machine.specs.flow_paths.Instructions.{Call, Input}
+use Rattle.machine.specs.flow_paths.Objects.{Typing, Signature, passing_by, passings, object_at, sub_at, is_borrower, is_formal, is_named_access, is_observer, is_anonymous, is_package_object, has_scope_end, view_of}
+use Rattle.machine.specs.flow_paths.Names.{selectors, name_of}
+use Rattle.machine.specs.flow_paths.Acts.{placed, acts_in, acts_of, actual_values, actual_act, actual_acts}
+use Rattle.machine.specs.flow_paths.Points.{NamedPoint, FlowPoint}
+use Rattle.machine.specs.flow_paths.Laid.{FlowSub, FlowProgram, NamedSub, kept_roots, sub_facts, flow_sub, typing_of, flow_typing, flow_program, flow_named}
+use Rattle.machine.specs.flow_paths.Reports.{on_views}
+use Rattle.machine.specs.flow_paths.Views.{changes, lends, ConstantView, holds_loans, of_observer, of_formal, in_function, of_borrower, changed, lent, MayBorrow, directly, through, is_function, is_in_mode, has_selector, text_report}
 use Rattle.machine.specs.States.{sub_of}
 use Rattle.machine.specs.Owners.{is_in, is_in_formal}
 use Rattle.soundness.specs.Ready.{root_of}

@@ -3,18 +3,18 @@
 use Rattle.std.proofs.Common.{◌≡◌, refl, sym, ap, subst, inl, inr, ℕ, Bool, true, false, ◌==◌, ◌||◌, eq-eqb, List, [], ◌∷◌, ◌++◌, length, reverse, is_some, if◌then◌else◌}
 use Rattle.std.specs.List.{filter}
 use Rattle.std.proofs.lemmas.List.{reverse-append}
-use Rattle.spark_base.specs.Lists.{Has}
-use Rattle.spark_base.proofs.Lists.{Has-append_left, Has-append_right, Has-append_cases}
-use Rattle.typed_tree.specs.Trees.{TypedTree, TypedCode, Name, Declare, More}
-use Rattle.typed_tree.specs.Trees as typed
-use Rattle.typed_tree.specs.Programs.{TypedSub}
-use Rattle.flow_paths.specs.Instructions.{Finish, Fall}
-use Rattle.flow_paths.specs.Objects.{has_scope_end}
-use Rattle.flow_paths.specs.Points.{Place, PointName, row_at, NamedPoint, point, entry}
-use Rattle.flow_paths.specs.Prep.{Setting}
-use Rattle.flow_paths.specs.Layout.{Around, declared, ends, laid}
-use Rattle.flow_paths.specs.Laid.{around_body, sub_points}
-use Rattle.flow_paths.specs.Scopes.{Leads, is_settled, is_within}
+use Rattle.machine.specs.spark_base.Lists.{Has}
+use Rattle.soundness.proofs.Lists.{Has-append_left, Has-append_right, Has-append_cases}
+use Rattle.machine.specs.typed_tree.Trees.{TypedTree, TypedCode, Name, Declare, More}
+use Rattle.machine.specs.typed_tree.Trees as typed
+use Rattle.machine.specs.typed_tree.Programs.{TypedSub}
+use Rattle.machine.specs.flow_paths.Instructions.{Finish, Fall}
+use Rattle.machine.specs.flow_paths.Objects.{has_scope_end}
+use Rattle.machine.specs.flow_paths.Points.{Place, PointName, row_at, NamedPoint, point, entry}
+use Rattle.machine.specs.flow_paths.Prep.{Setting}
+use Rattle.machine.specs.flow_paths.Layout.{Around, declared, ends, laid}
+use Rattle.machine.specs.flow_paths.Laid.{around_body, sub_points}
+use Rattle.machine.specs.flow_paths.Scopes.{Leads, is_settled, is_within}
 use Rattle.flow_paths.proofs.ScopesFlow.{leads_same, Starts}
 use Rattle.flow_paths.proofs.StatementScopes.{laid_starts, after}
 use Rattle.soundness.specs.Ready.{root_of}

@@ -1,10 +1,10 @@
 -- The scope around one that begins in code has a smaller number.
 use Rattle.std.proofs.Common.{◌≡◌, refl, subst, ℕ, zero, suc, ◌+◌, ◌≤◌, List, [], ◌∷◌, ◌++◌, length, get_or, arith}
 use Rattle.std.proofs.lemmas.List.{length-append}
-use Rattle.resolved_tree.specs.Trees.{More, Code, SubBody, Package, PackageBody, If, Branch, Case, When, Loop, While, For, Block}
-use Rattle.type_definitions.specs.declared.table.Known.{Known}
-use Rattle.typed_tree.specs.Statements.{scope_count}
-use Rattle.typed_tree.specs.Programs.{over_units, scopes_in, typed_program}
+use Rattle.machine.specs.resolved_tree.Trees.{More, Code, SubBody, Package, PackageBody, If, Branch, Case, When, Loop, While, For, Block}
+use Rattle.machine.specs.type_definitions.declared.table.Known.{Known}
+use Rattle.machine.specs.typed_tree.Statements.{scope_count}
+use Rattle.machine.specs.typed_tree.Programs.{over_units, scopes_in, typed_program}
 
 -- Each of these numbers is that of its place or less, counted from n on.
 abbrev pub AreInner : ℕ → List ℕ → Type 0

@@ -4,20 +4,20 @@ use Rattle.std.proofs.Common.{◌≡◌, refl, subst, ◌⊎◌, inl, inr, ℕ, 
 use Rattle.std.specs.Prelude.{reverse}
 use Rattle.std.specs.List.{AllByRecursion}
 use Rattle.std.proofs.lemmas.Bool.{false≢true}
-use Rattle.spark_base.specs.Lists.{Has}
-use Rattle.spark_base.proofs.Lists.{Has-append_left, Has-append_right, Has-append_cases}
-use Rattle.type_definitions.specs.Types.{is_owning}
-use Rattle.typed_tree.specs.Trees.{TypedTree, Name, Component, Designated, Element, Image, Parens, Unary, Binary, Short, IsNull, Aggregate, Alike, New, TypedCode}
-use Rattle.typed_tree.specs.Trees as typed
-use Rattle.typed_tree.specs.Programs.{TypedSub}
-use Rattle.flow_paths.specs.Instructions.{Declare}
-use Rattle.flow_paths.specs.Objects.{Typing, object_at, is_anonymous, view_of}
-use Rattle.flow_paths.specs.Names.{has_call}
-use Rattle.flow_paths.specs.Points.{Place, PointName, row_at, NamedPoint, point, entry}
-use Rattle.flow_paths.specs.Prep.{Setting, with_held, prep}
-use Rattle.flow_paths.specs.Layout.{Around, with_scope, declared, laid}
-use Rattle.flow_paths.specs.Laid.{declared_within, around_body, elaboration_points}
-use Rattle.flow_paths.specs.Scopes.{is_within}
+use Rattle.machine.specs.spark_base.Lists.{Has}
+use Rattle.soundness.proofs.Lists.{Has-append_left, Has-append_right, Has-append_cases}
+use Rattle.machine.specs.type_definitions.Types.{is_owning}
+use Rattle.machine.specs.typed_tree.Trees.{TypedTree, Name, Component, Designated, Element, Image, Parens, Unary, Binary, Short, IsNull, Aggregate, Alike, New, TypedCode}
+use Rattle.machine.specs.typed_tree.Trees as typed
+use Rattle.machine.specs.typed_tree.Programs.{TypedSub}
+use Rattle.machine.specs.flow_paths.Instructions.{Declare}
+use Rattle.machine.specs.flow_paths.Objects.{Typing, object_at, is_anonymous, view_of}
+use Rattle.machine.specs.flow_paths.Names.{has_call}
+use Rattle.machine.specs.flow_paths.Points.{Place, PointName, row_at, NamedPoint, point, entry}
+use Rattle.machine.specs.flow_paths.Prep.{Setting, with_held, prep}
+use Rattle.machine.specs.flow_paths.Layout.{Around, with_scope, declared, laid}
+use Rattle.machine.specs.flow_paths.Laid.{declared_within, around_body, elaboration_points}
+use Rattle.machine.specs.flow_paths.Scopes.{is_within}
 use Rattle.settled_types.specs.OrderLaws.ScopeLaws.Code.{roots, are_seen, is_seen}
 use Rattle.settled_types.proofs.OrderLaws.ScopeLaws.Lists.{and_first, and_second, all_both, all_one, all_if, all_has, has_reverse, within_has}
 use Rattle.settled_types.specs.OrderLaws.ReadyLaws.InOrder.{declares_only, own_nothing, names_no_owner}

@@ -2,15 +2,15 @@
 -- soundness with views asks.
 use Rattle.std.proofs.Common.{◌≡◌, refl, sym, ap, ◌∙◌, ◌⊎◌, inl, inr, ℕ, suc, true, false, List, map}
 use Rattle.std.proofs.lemmas.Bool.{true≢false}
-use Rattle.spark_base.specs.Lists.{Has}
-use Rattle.type_definitions.specs.Types.{Table}
-use Rattle.typed_tree.specs.Trees.{TypedTree, Name, NoMore, More}
-use Rattle.typed_tree.specs.Programs.{TypedProgram}
-use Rattle.flow_paths.specs.declared.report.Effects.{Effects}
-use Rattle.flow_paths.specs.Instructions.{Instruction, Declare, Assign, EndScope}
-use Rattle.flow_paths.specs.Objects.{Typing, object_at, is_variable, is_anonymous, view_of}
-use Rattle.flow_paths.specs.Points.{NamedPoint, FlowPoint}
-use Rattle.flow_paths.specs.Laid.{FlowProgram, NamedSub, number_in, flow_typing, flow_program, flow_named}
+use Rattle.machine.specs.spark_base.Lists.{Has}
+use Rattle.machine.specs.type_definitions.Types.{Table}
+use Rattle.machine.specs.typed_tree.Trees.{TypedTree, Name, NoMore, More}
+use Rattle.machine.specs.typed_tree.Programs.{TypedProgram}
+use Rattle.machine.specs.flow_paths.declared.report.Effects.{Effects}
+use Rattle.machine.specs.flow_paths.Instructions.{Instruction, Declare, Assign, EndScope}
+use Rattle.machine.specs.flow_paths.Objects.{Typing, object_at, is_variable, is_anonymous, view_of}
+use Rattle.machine.specs.flow_paths.Points.{NamedPoint, FlowPoint}
+use Rattle.machine.specs.flow_paths.Laid.{FlowProgram, NamedSub, number_in, flow_typing, flow_program, flow_named}
 use Rattle.machine.specs.States.{sub_of}
 use Rattle.soundness.specs.Sound.{IsAtPoint, RunIsSound}
 use Rattle.viewed_steps.specs.Sound.{IsViewClass}
@@ -18,7 +18,7 @@ use Rattle.viewed_steps.specs.Ready.{IsSource, AreOrderly, ViewsAreOrderly, IsRe
 use Rattle.viewed_steps.proofs.Main.{ready_sound}
 use Rattle.viewed_steps.specs.Sound.{IsStoredAt}
 use Rattle.soundness.proofs.Points.{flow_at}
-use Rattle.flow_paths.specs.Laid.{flow_sub, typing_of}
+use Rattle.machine.specs.flow_paths.Laid.{flow_sub, typing_of}
 use Rattle.accepted_runs.specs.ViewedFiles.ViewLaws.Program.{IsViewProgram}
 use Rattle.accepted_runs.proofs.ViewedFiles.ViewLaws.Enclosing.{itself, transitive}
 use Rattle.accepted_runs.proofs.ViewedFiles.ViewLaws.Passing as passing

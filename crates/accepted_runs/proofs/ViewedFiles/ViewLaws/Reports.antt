@@ -2,26 +2,26 @@
 use Rattle.std.proofs.Common.{◌≡◌, refl, ap, ◌∙◌, subst, inl, ℕ, Bool, true, false, not, ◌&&◌, ◌==◌, eqb-true, List, [], ◌∷◌, ◌++◌, Some}
 use Rattle.std.proofs.lemmas.Bool.{false≢true}
 use Rattle.std.specs.Prelude.{is_some}
-use Rattle.spark_base.specs.Lists.{Has}
-use Rattle.spark_base.specs.declared.position.Pos.{Pos}
-use Rattle.place_names.specs.declared.act.Act.TheVariants as act
-use Rattle.place_names.specs.declared.act.Placed.{Placed}
-use Rattle.place_names.specs.declared.rule.Rule.TheVariants as rule
-use Rattle.place_names.specs.declared.selector.Sel.{Sel}
-use Rattle.place_names.specs.declared.selector.Sel.TheVariants as sel
-use Rattle.place_names.specs.Names.{Name as PlaceName, extend}
-use Rattle.type_definitions.specs.declared.judgement.View.{View}
-use Rattle.type_definitions.specs.declared.judgement.View.TheVariants as view
-use Rattle.type_definitions.specs.Types.{is_nil}
-use Rattle.typed_tree.specs.declared.object.ObjectKind.{ObjectKind}
-use Rattle.typed_tree.specs.declared.object.ObjectKind.TheVariants as object_kind
-use Rattle.flow_paths.specs.declared.report.Effects.{Effects}
-use Rattle.flow_paths.specs.Objects.{Typing, is_observer, traverses, object_at, is_variable, is_formal_kind, is_formal, is_observing, is_borrowing, view_of}
-use Rattle.flow_paths.specs.Points.{FlowPoint}
-use Rattle.flow_paths.specs.Laid.{FlowSub, FlowProgram, flow_typing}
-use Rattle.flow_paths.specs.Limits.{source_pos}
-use Rattle.flow_paths.specs.Reports.{AreReports, on_views}
-use Rattle.flow_paths.specs.Views.{of_observer, MayBorrow, directly, through, changed, lent, shorter, other_root, changes, lends, has_selector, traversed_of, encloses, scope_of, is_assignment, text_report}
+use Rattle.machine.specs.spark_base.Lists.{Has}
+use Rattle.machine.specs.spark_base.declared.position.Pos.{Pos}
+use Rattle.machine.specs.place_names.declared.act.Act.TheVariants as act
+use Rattle.machine.specs.place_names.declared.act.Placed.{Placed}
+use Rattle.machine.specs.place_names.declared.rule.Rule.TheVariants as rule
+use Rattle.machine.specs.place_names.declared.selector.Sel.{Sel}
+use Rattle.machine.specs.place_names.declared.selector.Sel.TheVariants as sel
+use Rattle.machine.specs.place_names.Names.{Name as PlaceName, extend}
+use Rattle.machine.specs.type_definitions.declared.judgement.View.{View}
+use Rattle.machine.specs.type_definitions.declared.judgement.View.TheVariants as view
+use Rattle.machine.specs.type_definitions.Types.{is_nil}
+use Rattle.machine.specs.typed_tree.declared.object.ObjectKind.{ObjectKind}
+use Rattle.machine.specs.typed_tree.declared.object.ObjectKind.TheVariants as object_kind
+use Rattle.machine.specs.flow_paths.declared.report.Effects.{Effects}
+use Rattle.machine.specs.flow_paths.Objects.{Typing, is_observer, traverses, object_at, is_variable, is_formal_kind, is_formal, is_observing, is_borrowing, view_of}
+use Rattle.machine.specs.flow_paths.Points.{FlowPoint}
+use Rattle.machine.specs.flow_paths.Laid.{FlowSub, FlowProgram, flow_typing}
+use Rattle.machine.specs.flow_paths.Limits.{source_pos}
+use Rattle.machine.specs.flow_paths.Reports.{AreReports, on_views}
+use Rattle.machine.specs.flow_paths.Views.{of_observer, MayBorrow, directly, through, changed, lent, shorter, other_root, changes, lends, has_selector, traversed_of, encloses, scope_of, is_assignment, text_report}
 
 by_false : (b : Bool) → (not b ≡ true → ⊥) → b ≡ true
 by_false true none = refl

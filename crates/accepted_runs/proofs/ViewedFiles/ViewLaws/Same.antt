@@ -2,13 +2,13 @@
 use Rattle.std.proofs.Common.{◌≡◌, refl, sym, ap, ◌∙◌, ◌⊎◌, inl, inr, ℕ, zero, suc, Bool, true, false, ◌&&◌, List, [], ◌∷◌, ◌++◌, map, get_or}
 use Rattle.std.specs.Prelude.{flat_map}
 use Rattle.std.proofs.lemmas.Bool.{true≢false}
-use Rattle.type_definitions.specs.Types.{Table, full}
-use Rattle.typed_tree.specs.declared.object.Object.{Object}
-use Rattle.typed_tree.specs.Programs.{TypedProgram, text_io}
-use Rattle.flow_paths.specs.Objects.{Typing, object_at, is_variable, is_borrower, is_borrowing, is_observer, is_observing, is_anonymous, view_of}
-use Rattle.flow_paths.specs.Laid.{Temporary, NamedSub, temporary_object, typing_of, flow_typing, flow_named, flow_program}
-use Rattle.flow_paths.specs.Scopes.{is_temporary}
-use Rattle.flow_paths.specs.Views.{scope_of}
+use Rattle.machine.specs.type_definitions.Types.{Table, full}
+use Rattle.machine.specs.typed_tree.declared.object.Object.{Object}
+use Rattle.machine.specs.typed_tree.Programs.{TypedProgram, text_io}
+use Rattle.machine.specs.flow_paths.Objects.{Typing, object_at, is_variable, is_borrower, is_borrowing, is_observer, is_observing, is_anonymous, view_of}
+use Rattle.machine.specs.flow_paths.Laid.{Temporary, NamedSub, temporary_object, typing_of, flow_typing, flow_named, flow_program}
+use Rattle.machine.specs.flow_paths.Scopes.{is_temporary}
+use Rattle.machine.specs.flow_paths.Views.{scope_of}
 use Rattle.soundness.specs.Sound.{is_temporary_object}
 use Rattle.soundness.proofs.Typings.{Agree, flow_agrees}
 

@@ -1,21 +1,21 @@
 -- What is asked of traversal functions: the point that a call of one leads to takes the result.
 use Rattle.std.proofs.Common.{◌≡◌, refl, sym, ap, ◌∙◌, subst, ◌⊎◌, inl, inr, ℕ, Bool, true, false, [], ◌∷◌, map, Option, Some, None, is_some}
 use Rattle.std.proofs.lemmas.Bool.{false≢true, true≢false}
-use Rattle.spark_base.specs.Lists.{Has}
-use Rattle.spark_base.specs.declared.position.Pos.{Pos}
-use Rattle.spark_base.proofs.Lists.{Has-append_right}
-use Rattle.place_names.specs.declared.act.Act.TheVariants as act
-use Rattle.type_definitions.specs.Types.{Table}
-use Rattle.typed_tree.specs.Trees.{TypedTree, Name, Call as CallIn, NoMore, More}
-use Rattle.typed_tree.specs.Programs.{TypedProgram}
-use Rattle.flow_paths.specs.declared.report.Effects.{Effects}
-use Rattle.flow_paths.specs.Acts.{placed}
-use Rattle.flow_paths.specs.Instructions.{Declare, Assign, Call}
-use Rattle.flow_paths.specs.Laid.{FlowSub, FlowProgram, NamedSub, number_in, flow_sub, typing_of, flow_typing, flow_program, flow_named}
-use Rattle.flow_paths.specs.Names.{name_of}
-use Rattle.flow_paths.specs.Objects.{Typing, object_at, sub_at, is_anonymous, is_borrower, is_observer, is_formal, traverses, view_of}
-use Rattle.flow_paths.specs.Points.{NamedPoint, FlowPoint}
-use Rattle.flow_paths.specs.Views.{traversed_of, traversed_formal, given}
+use Rattle.machine.specs.spark_base.Lists.{Has}
+use Rattle.machine.specs.spark_base.declared.position.Pos.{Pos}
+use Rattle.soundness.proofs.Lists.{Has-append_right}
+use Rattle.machine.specs.place_names.declared.act.Act.TheVariants as act
+use Rattle.machine.specs.type_definitions.Types.{Table}
+use Rattle.machine.specs.typed_tree.Trees.{TypedTree, Name, Call as CallIn, NoMore, More}
+use Rattle.machine.specs.typed_tree.Programs.{TypedProgram}
+use Rattle.machine.specs.flow_paths.declared.report.Effects.{Effects}
+use Rattle.machine.specs.flow_paths.Acts.{placed}
+use Rattle.machine.specs.flow_paths.Instructions.{Declare, Assign, Call}
+use Rattle.machine.specs.flow_paths.Laid.{FlowSub, FlowProgram, NamedSub, number_in, flow_sub, typing_of, flow_typing, flow_program, flow_named}
+use Rattle.machine.specs.flow_paths.Names.{name_of}
+use Rattle.machine.specs.flow_paths.Objects.{Typing, object_at, sub_at, is_anonymous, is_borrower, is_observer, is_formal, traverses, view_of}
+use Rattle.machine.specs.flow_paths.Points.{NamedPoint, FlowPoint}
+use Rattle.machine.specs.flow_paths.Views.{traversed_of, traversed_formal, given}
 use Rattle.machine.specs.Owners.{is_in}
 use Rattle.machine.specs.States.{sub_of}
 use Rattle.soundness.specs.Sound.{IsNamedSub, IsAtPoint}

@@ -2,19 +2,19 @@
 -- no anonymous access type, beside what a function gives that the point takes alone.
 use Rattle.std.proofs.Common.{◌≡◌, refl, sym, ap, ◌∙◌, subst, ◌⊎◌, inl, inr, ℕ, true, false, List, ◌∷◌, Some}
 use Rattle.std.proofs.lemmas.Bool.{true≢false}
-use Rattle.spark_base.specs.declared.position.Pos.{Pos}
-use Rattle.spark_base.specs.Lists.{Has}
-use Rattle.type_definitions.specs.Types.{Table, full}
-use Rattle.typed_tree.specs.Trees.{TypedTree, Name, NoMore}
-use Rattle.typed_tree.specs.Trees as typed_tree
-use Rattle.typed_tree.specs.declared.node.ShortCircuit.{ShortCircuit}
-use Rattle.typed_tree.specs.Programs.{TypedProgram}
-use Rattle.flow_paths.specs.declared.report.Effects.{Effects}
-use Rattle.flow_paths.specs.Instructions.{Declare, Assign, Evaluate, Hold}
-use Rattle.flow_paths.specs.Names.{has_call}
-use Rattle.flow_paths.specs.Objects.{Typing, is_anonymous, is_package_object, view_of}
-use Rattle.flow_paths.specs.Points.{NamedPoint}
-use Rattle.flow_paths.specs.Laid.{FlowProgram, NamedSub, elaboration_points, unnumbered, typing_of, flow_typing, flow_program, flow_named}
+use Rattle.machine.specs.spark_base.declared.position.Pos.{Pos}
+use Rattle.machine.specs.spark_base.Lists.{Has}
+use Rattle.machine.specs.type_definitions.Types.{Table, full}
+use Rattle.machine.specs.typed_tree.Trees.{TypedTree, Name, NoMore}
+use Rattle.machine.specs.typed_tree.Trees as typed_tree
+use Rattle.machine.specs.typed_tree.declared.node.ShortCircuit.{ShortCircuit}
+use Rattle.machine.specs.typed_tree.Programs.{TypedProgram}
+use Rattle.machine.specs.flow_paths.declared.report.Effects.{Effects}
+use Rattle.machine.specs.flow_paths.Instructions.{Declare, Assign, Evaluate, Hold}
+use Rattle.machine.specs.flow_paths.Names.{has_call}
+use Rattle.machine.specs.flow_paths.Objects.{Typing, is_anonymous, is_package_object, view_of}
+use Rattle.machine.specs.flow_paths.Points.{NamedPoint}
+use Rattle.machine.specs.flow_paths.Laid.{FlowProgram, NamedSub, elaboration_points, unnumbered, typing_of, flow_typing, flow_program, flow_named}
 use Rattle.soundness.specs.Sound.{is_temporary_object}
 use Rattle.soundness.proofs.Typings.{Agree, flow_agrees}
 use Rattle.settled_types.specs.OrderLaws.ScopeLaws.Order.{named_in, IsSeen}

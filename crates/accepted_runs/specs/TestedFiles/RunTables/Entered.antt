@@ -1,10 +1,10 @@
 -- What frames that enter ask of a typed program.
 use Rattle.std.specs.Prelude.{◌≡◌, ◌<◌, ℕ, suc, false, List, ◌∷◌, length, Some}
-use Rattle.spark_base.specs.Lists.{Has}
-use Rattle.type_definitions.specs.Types.{Table}
-use Rattle.typed_tree.specs.Programs.{TypedSub, TypedProgram}
-use Rattle.flow_paths.specs.Objects.{is_package_object}
-use Rattle.flow_paths.specs.Laid.{typing_of}
+use Rattle.machine.specs.spark_base.Lists.{Has}
+use Rattle.machine.specs.type_definitions.Types.{Table}
+use Rattle.machine.specs.typed_tree.Programs.{TypedSub, TypedProgram}
+use Rattle.machine.specs.flow_paths.Objects.{is_package_object}
+use Rattle.machine.specs.flow_paths.Laid.{typing_of}
 use Rattle.settled_types.specs.OrderLaws.ScopeLaws.Code.{Once}
 use Rattle.settled_types.specs.OrderLaws.ReadyLaws.InOrder.{IsSub}
 

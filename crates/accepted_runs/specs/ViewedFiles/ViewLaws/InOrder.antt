@@ -2,16 +2,16 @@
 -- order. Nothing here speaks of points, paths or facts.
 use Rattle.std.specs.Prelude.{◌≡◌, ◌⊎◌, ℕ, ◌≤◌, Bool, true, false, not, ◌&&◌, ◌||◌, List, get_or, nat_lt, Option, Some, None}
 use Rattle.std.specs.List.{list_all}
-use Rattle.spark_base.specs.Lists.{Has}
-use Rattle.spark_base.specs.declared.position.Pos.{Pos}
-use Rattle.type_definitions.specs.Types.{Table, full, is_owning}
-use Rattle.typed_tree.specs.Trees.{TypedTree, Name, Call, NoMore, More, TypedCode}
-use Rattle.typed_tree.specs.Trees as typed
-use Rattle.typed_tree.specs.Programs.{TypedSub, TypedProgram}
-use Rattle.flow_paths.specs.Instructions.{Instruction, Declare, Assign}
-use Rattle.flow_paths.specs.Objects.{Typing, object_at, sub_at, traverses, is_variable, is_anonymous, is_observer, is_formal, is_package_object, view_of}
-use Rattle.flow_paths.specs.Names.{first, whole}
-use Rattle.flow_paths.specs.Laid.{declared_within, typing_of}
+use Rattle.machine.specs.spark_base.Lists.{Has}
+use Rattle.machine.specs.spark_base.declared.position.Pos.{Pos}
+use Rattle.machine.specs.type_definitions.Types.{Table, full, is_owning}
+use Rattle.machine.specs.typed_tree.Trees.{TypedTree, Name, Call, NoMore, More, TypedCode}
+use Rattle.machine.specs.typed_tree.Trees as typed
+use Rattle.machine.specs.typed_tree.Programs.{TypedSub, TypedProgram}
+use Rattle.machine.specs.flow_paths.Instructions.{Instruction, Declare, Assign}
+use Rattle.machine.specs.flow_paths.Objects.{Typing, object_at, sub_at, traverses, is_variable, is_anonymous, is_observer, is_formal, is_package_object, view_of}
+use Rattle.machine.specs.flow_paths.Names.{first, whole}
+use Rattle.machine.specs.flow_paths.Laid.{declared_within, typing_of}
 use Rattle.machine.specs.Owners.{is_in_formal}
 use Rattle.soundness.specs.TypedLaws.Needed.{Leads}
 use Rattle.settled_types.specs.OrderLaws.ScopeLaws.Code.{roots, body_seen}
