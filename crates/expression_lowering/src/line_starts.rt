@@ -16,7 +16,7 @@ pub struct LineStarts {
 
 impl LineStarts {
     /// The lines of identifiers in the order of the text. Memory is linear in the lines.
-    pub fn new(alloc: Global, all: &[Identified]) -> Result<LineStarts, AllocError> {
+    pub(crate) fn new(alloc: Global, all: &[Identified]) -> Result<LineStarts, AllocError> {
         let mut starts = Vec::new(alloc);
         let mut files = Vec::new(alloc);
         'identifiers: for (before, identified) in all.iter().enumerate() {
@@ -34,7 +34,7 @@ impl LineStarts {
     }
 
     /// How many identifiers stand before the line of a position, and before the next line.
-    pub fn around(&self, pos: Pos) -> Option<(usize, usize)> {
+    pub(crate) fn around(&self, pos: Pos) -> Option<(usize, usize)> {
         let lines = self.files.get(pos.file as usize)?;
         let line = lines.saturating_add(pos.line as usize);
         let from = self.starts.get(line)?;

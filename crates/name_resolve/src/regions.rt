@@ -138,7 +138,7 @@ impl Regions {
     }
 
     /// How many packages are in use here, with those counted twice that two clauses name.
-    pub fn count_in_use(&self) -> usize {
+    pub(crate) fn count_in_use(&self) -> usize {
         let mut count = self.given_uses().len();
         'turns: for inner in &self.around {
             count = count.saturating_add(self.uses.at(inner.region).len());

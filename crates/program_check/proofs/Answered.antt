@@ -1,5 +1,5 @@
 -- The answer for files whose program is laid out.
-use Rattle.std.proofs.Common.{◌≡◌, refl, ap, subst, List, [], ◌∷◌, map, string_bytes, None, Result, Ok, Err}
+use Rattle.std.proofs.Common.{◌≡◌, refl, ap, subst, List, [], ◌∷◌, map, string_bytes, None, Ok}
 use Rattle.ada_tree.specs.declared.unit.SourceUnit.{SourceUnit}
 use Rattle.place_names.specs.Reports.{Report}
 use Rattle.type_definitions.specs.Types.{Table}

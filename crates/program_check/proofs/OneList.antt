@@ -1,5 +1,5 @@
 -- A program has one list of reports.
-use Rattle.std.proofs.Common.{◌≡◌, sym, subst, List}
+use Rattle.std.proofs.Common.{◌≡◌, subst, List}
 use Rattle.ada_tree.specs.declared.unit.SourceUnit.{SourceUnit}
 use Rattle.place_names.specs.Reports.{Report}
 use Rattle.place_names.proofs.Reports.{report_list-unique}

@@ -1,12 +1,12 @@
 -- The word of a scalar object without a value.
-use Rattle.std.proofs.Common.{◌≡◌, refl, sym, ap, subst, ◌∙◌, ◌≢◌, ℕ, zero, suc, ◌<◌, ◌≤◌, ◌-◌, List, [], ◌∷◌, map, length, Option, Some, None, arith}
-use Rattle.std.specs.Prelude.{ℤ, pos, slice_get}
+use Rattle.std.proofs.Common.{◌≡◌, refl, sym, ap, ◌∙◌, ◌≢◌, ℕ, suc, ◌<◌, ◌≤◌, ◌-◌, [], ◌∷◌, map, length, Option, Some, None, arith}
+use Rattle.std.specs.Prelude.{slice_get}
 use Rattle.std.proofs.lemmas.Option.{slice_get_within}
 use Rattle.type_definitions.specs.declared.table.Shape.{Shape}
 use Rattle.type_definitions.specs.declared.table.Shape.TheVariants as shape
 use Rattle.type_definitions.specs.declared.table.Info.{Info}
-use Rattle.type_definitions.specs.Types.{Table, shape_of, meant_type, shape_found, meant_type_found, same_as}
-use Rattle.machine.specs.Words.{default, default_within, default_of}
+use Rattle.type_definitions.specs.Types.{Table, shape_of, shape_found, meant_type_found, same_as}
+use Rattle.machine.specs.Words.{default, default_within}
 use Rattle.run_codes.specs.Flat.{default_words, untagged}
 use Rattle.run_codes.specs.Lowered.{Scalar, scalar_of}
 use Rattle.program_lowering.specs.Defaults.{first_word, default_scalar}

@@ -1,5 +1,5 @@
 -- Lists that are added to.
-use Rattle.std.proofs.Common.{◌≡◌, suc, ◌<◌, get_or, add-one, drop-cons, refl, sym, ap, ◌∙◌, ℕ, ◌+◌, ◌≤◌, Bool, List, [], ◌∷◌, ◌++◌, map, length, take, drop, nat_le, Option, Some, None, IsTrue, IfSome, append_assoc, arith}
+use Rattle.std.proofs.Common.{◌≡◌, suc, ◌<◌, get_or, add-one, drop-cons, refl, sym, ap, ◌∙◌, ℕ, ◌+◌, List, [], ◌∷◌, ◌++◌, map, length, take, drop, Option, Some, None, IsTrue, IfSome, append_assoc, arith}
 use Rattle.std.proofs.lemmas.Grind.{common_steps}
 use Rattle.std.proofs.Math.Seq.{drop-append_seam}
 use Rattle.std.proofs.lemmas.List.{take-map, drop-map}

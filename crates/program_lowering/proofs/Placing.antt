@@ -1,11 +1,10 @@
 -- What is stored where.
-use Rattle.std.proofs.Common.{◌≡◌, refl, sym, ap, ◌∙◌, ℕ, zero, suc, Bool, true, false, not, ◌&&◌, List, Option, Some, None, IsTrue, length, nat_lt, is_some, arith}
-use Rattle.std.specs.Prelude.{ℤ, pos, negsuc}
+use Rattle.std.proofs.Common.{◌≡◌, refl, sym, ℕ, Bool, true, false, not, ◌&&◌, List, Option, Some, None, IsTrue, length, nat_lt, is_some, arith}
+use Rattle.std.specs.Prelude.{ℤ}
 use Rattle.spark_base.specs.declared.position.Pos.{Pos}
 use Rattle.type_definitions.specs.declared.table.Shape.{Shape}
-use Rattle.run_codes.specs.Codes.{Code, Number, Local, Global, Via, Scaled, Plus, Unary, Binary, Short, IsNull, Waiting, EndOfFile, Nothing, Place, InFrame, InPackages, Behind, Fill, Checked, Pointer, Put, Store, Assign}
-use Rattle.run_codes.specs.Codes as codes
-use Rattle.run_codes.specs.Lowered.{no_index, Placed}
+use Rattle.run_codes.specs.Codes.{Code, Number, Local, Global, Via, Scaled, Plus, Unary, Binary, Short, IsNull, Waiting, EndOfFile, Nothing, InFrame, Checked, Pointer, Put, Store, Assign}
+use Rattle.run_codes.specs.Lowered.{Placed}
 use Rattle.run_codes.specs.Programs.{kind_at, put_at}
 use Rattle.code_rows.specs.declared.node.Node.{Node}
 use Rattle.code_rows.specs.Rows.{code_at}

@@ -1,9 +1,8 @@
 -- Programs whose rows grow.
-use Rattle.std.proofs.Common.{◌≡◌, refl, sym, ap, ◌∙◌, List, map}
-use Rattle.run_codes.specs.Programs.{Program}
+use Rattle.std.proofs.Common.{◌≡◌}
 use Rattle.code_rows.specs.declared.rows.Rows.{Rows}
 use Rattle.code_rows.specs.declared.codes.Codes.{Codes}
-use Rattle.code_rows.specs.Points.{point_of, sub_of, program_of, AreSound, IsWhole, RowsGrew}
+use Rattle.code_rows.specs.Points.{program_of, AreSound, IsWhole, RowsGrew}
 use Rattle.code_rows.proofs.Kept.{longer_none, points_kept, subs_kept, whole_rows}
 
 pub whole_more : (c : Codes) (rows : Rows) → IsWhole c → RowsGrew c.rows rows → AreSound rows → IsWhole (record c { rows = rows })

@@ -1,6 +1,5 @@
 -- Rows to which nodes and values are added.
-use Rattle.std.proofs.Common.{◌≡◌, refl, ap, ◌∙◌, ℕ, ◌<◌, List, length, nat_lt, map, IsTrue, arith}
-use Rattle.run_codes.specs.Codes as codes
+use Rattle.std.proofs.Common.{◌≡◌, refl, ap, ◌∙◌, ℕ, ◌<◌, List, length, map, IsTrue, arith}
 use Rattle.code_rows.specs.declared.fill.Fill.{Fill}
 use Rattle.code_rows.specs.declared.node.Node.{Node}
 use Rattle.code_rows.specs.declared.rows.Rows.{Rows}
@@ -8,7 +7,7 @@ use Rattle.code_rows.specs.Rows.{code_at, Grew}
 use Rattle.code_rows.specs.Values.{fill_at, are_within, AllGrew}
 use Rattle.code_rows.specs.Points.{actual_of, text_of, is_actual_there, is_text_there, is_node, is_value, AreSound, RowsGrew}
 use Rattle.code_rows.proofs.Filled.{within_grew, nodes_grew}
-use Rattle.code_rows.proofs.Kept.{more_nodes, sound_parts, sound_within, map_same, actual_kept, text_kept, all_actuals, all_texts, node_kept, node_there, value_kept, value_there}
+use Rattle.code_rows.proofs.Kept.{more_nodes, sound_parts, sound_within, map_same, actual_kept, text_kept, all_actuals, all_texts, node_kept, value_kept}
 use Rattle.program_lowering.specs.Arounds.{actuals_in, texts_in}
 
 module _ (a : Rows) (nodes : List Node) (fills : List Fill) (g : AllGrew a.nodes a.fills nodes fills) (sound : AreSound a) where

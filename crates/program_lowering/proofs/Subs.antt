@@ -1,5 +1,5 @@
 -- Subprograms, their frames and their program.
-use Rattle.std.proofs.Common.{◌≡◌, refl, sym, ap, ◌∙◌, ℕ, zero, suc, ◌+◌, Bool, true, false, List, [], ◌∷◌, ◌++◌, map, flat_map, take, drop, length, get_or, Option, Some, None, append_assoc, arith}
+use Rattle.std.proofs.Common.{◌≡◌, refl, sym, ap, ◌∙◌, ℕ, ◌+◌, Bool, true, false, List, [], ◌∷◌, ◌++◌, map, flat_map, take, length, Option, Some, append_assoc, arith}
 use Rattle.std.proofs.lemmas.Grind.{common_steps}
 use Rattle.std.proofs.lemmas.List.{map-append}
 use Rattle.std.specs.Prelude.{if◌then◌else◌}
@@ -9,14 +9,14 @@ use Rattle.typed_tree.specs.Nodes.{TypedNodes}
 use Rattle.flow_paths.specs.declared.point.LaidSub.{LaidSub}
 use Rattle.flow_paths.specs.Instructions.{Instruction, Skip, Declare, Assign, Call, Output, Input, Release, Test, Choose, Start, Next, Evaluate, LeaveLoop, Hold, EndScope, Finish, Fall}
 use Rattle.flow_paths.specs.Points.{FlowPoint}
-use Rattle.flow_paths.specs.Objects.{Typing, Signature, object_at}
+use Rattle.flow_paths.specs.Objects.{Typing, object_at}
 use Rattle.flow_paths.specs.Laid.{FlowSub, FlowProgram, flow_typing}
 use Rattle.flow_paths.specs.Stands.{flow_sub_of}
 use Rattle.machine.specs.States.{sub_of}
 use Rattle.run_codes.specs.Codes as codes
 use Rattle.run_codes.specs.Codes.{Point}
 use Rattle.run_codes.specs.Lowered.{Kept, option_map}
-use Rattle.run_codes.specs.Programs.{Program, kept, has_room, with_room, room_of, rooms_of, objects_of, rooms, points_from, sub_row, sub_rows, lowered_program}
+use Rattle.run_codes.specs.Programs.{kept, has_room, with_room, room_of, rooms_of, objects_of, rooms, points_from, sub_row, sub_rows, lowered_program}
 use Rattle.code_rows.specs.declared.range.Range.{Range}
 use Rattle.code_rows.specs.declared.codes.Codes.{Codes}
 use Rattle.code_rows.specs.declared.point.Room.{Room}

@@ -1,5 +1,5 @@
 -- Starts and turns of loops, by what they are made of.
-use Rattle.std.proofs.Common.{◌≡◌, refl, ℕ, ◌+◌, Bool, List, [], ◌∷◌, Option, Some, None, if◌then◌else◌}
+use Rattle.std.proofs.Common.{◌≡◌, refl, ℕ, ◌+◌, Bool, [], ◌∷◌, Option, Some, None, if◌then◌else◌}
 use Rattle.std.specs.Prelude.{ℤ, option_and_then}
 use Rattle.type_definitions.specs.Types.{shape_of, is_owning}
 use Rattle.typed_tree.specs.Trees.{TypedTree}

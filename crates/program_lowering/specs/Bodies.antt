@@ -1,5 +1,5 @@
 -- What the points of a subprogram are lowered by in the code, as the definitions have it.
-use Rattle.std.specs.Prelude.{ℕ, List, [], map}
+use Rattle.std.specs.Prelude.{List, [], map}
 use Rattle.flow_paths.specs.declared.point.Point.{Point}
 use Rattle.flow_paths.specs.Points.{FlowPoint}
 use Rattle.flow_paths.specs.Stands.{flow_point_of}

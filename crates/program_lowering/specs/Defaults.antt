@@ -2,7 +2,7 @@
 use Rattle.std.specs.Prelude.{ℕ, nat_eq, ℤ, pos, if◌then◌else◌}
 use Rattle.type_definitions.specs.Types.{Table, meant_type}
 use Rattle.type_definitions.specs.Entries.{integer}
-use Rattle.machine.specs.Typed.{Sort, Whole, Position, Pointer}
+use Rattle.machine.specs.Typed.{Sort, Whole}
 use Rattle.run_codes.specs.Lowered.{Scalar}
 
 -- 0 of Integer, else the first value of the type.

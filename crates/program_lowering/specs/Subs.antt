@@ -1,5 +1,5 @@
 -- What subprograms are, as the definitions have it.
-use Rattle.std.specs.Prelude.{ℕ, List, [], ◌∷◌, flat_map, if◌then◌else◌}
+use Rattle.std.specs.Prelude.{List, [], ◌∷◌, flat_map, if◌then◌else◌}
 use Rattle.flow_paths.specs.declared.point.LaidSub.{LaidSub}
 use Rattle.flow_paths.specs.Objects.{Signature, Typing, object_at}
 use Rattle.run_codes.specs.Lowered.{Kept}

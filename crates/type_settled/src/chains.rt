@@ -19,7 +19,7 @@ pub struct Chains {
 
 impl Chains {
     /// An empty chain for each of so many types.
-    pub fn new(alloc: Global, types: usize) -> Result<Chains, AllocError> {
+    pub(crate) fn new(alloc: Global, types: usize) -> Result<Chains, AllocError> {
         Ok(Chains {
             first: vec![in alloc; None; types]?,
             links: Vec::new(alloc),
@@ -27,7 +27,7 @@ impl Chains {
     }
 
     /// Puts one type in front of the chain of another. Beyond the table no type has a chain.
-    pub fn add(&mut self, from: usize, to: usize) -> Result<(), AllocError> {
+    pub(crate) fn add(&mut self, from: usize, to: usize) -> Result<(), AllocError> {
         let place = self.links.len();
         let Some(first) = self.first.get_mut(from) else {
             return Ok(());
@@ -38,7 +38,7 @@ impl Chains {
     }
 
     /// Takes the first type off the chain of a type.
-    pub fn take(&mut self, from: usize) -> Option<usize> {
+    pub(crate) fn take(&mut self, from: usize) -> Option<usize> {
         let first = self.first.get_mut(from)?;
         let link = *self.links.get((*first)?)?;
         *first = link.next;
@@ -46,7 +46,7 @@ impl Chains {
     }
 
     /// In how many steps all chains are walked, where each type is entered once.
-    pub fn steps(&self) -> usize {
+    pub(crate) fn steps(&self) -> usize {
         self.links.len().saturating_add(self.first.len())
     }
 }

@@ -56,7 +56,7 @@ fn link_type(chains: &mut Chains, way: Way, t: usize, info: &Info) -> Result<(),
 }
 
 /// All types linked with what they are made of, or a subtype of.
-pub fn links(alloc: Global, table: &[Info], way: Way) -> Result<Chains, AllocError> {
+pub(crate) fn links(alloc: Global, table: &[Info], way: Way) -> Result<Chains, AllocError> {
     let mut chains = Chains::new(alloc, table.len())?;
     'types: for (t, info) in table.iter().enumerate() {
         link_type(&mut chains, way, t, info)?;

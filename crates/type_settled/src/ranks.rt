@@ -73,7 +73,7 @@ fn are_rising(table: &[Info], ranks: &[u32]) -> bool {
 
 /// The ranks of all types. Those that are made of one another have the same. Mostly each type
 /// stands after what it is made of.
-pub fn ranks(alloc: Global, table: &[Info]) -> Result<Vec<u32>, AllocError> {
+pub(crate) fn ranks(alloc: Global, table: &[Info]) -> Result<Vec<u32>, AllocError> {
     let ranks = ranks_in_order(alloc, table)?;
     if are_rising(table, &ranks) {
         return Ok(ranks);

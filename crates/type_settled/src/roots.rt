@@ -20,7 +20,7 @@ fn first(firsts: &mut Vec<Option<usize>>, rank: u32, t: usize) -> usize {
 }
 
 /// Of each type the first one with its rank.
-pub fn roots(alloc: Global, ranks: &[u32]) -> Result<Vec<usize>, AllocError> {
+pub(crate) fn roots(alloc: Global, ranks: &[u32]) -> Result<Vec<usize>, AllocError> {
     let mut firsts = vec![in alloc; None; ranks.len()]?;
     let mut roots = Vec::new(alloc);
     'types: for (t, rank) in ranks.iter().enumerate() {
@@ -57,7 +57,11 @@ pub fn mark(marks: &mut Vec<bool>, t: usize)
 }
 
 /// The types that are roots of rings. A lone type is in no ring.
-pub fn ring_roots(alloc: Global, roots: &[usize], lone: &[bool]) -> Result<Vec<usize>, AllocError> {
+pub(crate) fn ring_roots(
+    alloc: Global,
+    roots: &[usize],
+    lone: &[bool],
+) -> Result<Vec<usize>, AllocError> {
     let mut types = Vec::new(alloc);
     'types: for (t, root) in roots.iter().enumerate() {
         if *root == t && !is_marked(lone, t) {

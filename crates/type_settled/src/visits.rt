@@ -1,5 +1,5 @@
 //! Each type is visited, and after it what it is made of.
-ghost use Rattle.std.specs.Prelude.{◌<◌, length, IfOk, IsSome};
+ghost use Rattle.std.specs.Prelude.{◌≡◌, ◌<◌, [], ◌∷◌, ◌++◌, false, true, length, Ok, IfOk, IsSome, OnOk};
 ghost use Rattle.type_settled.specs.Measures.{marked};
 ghost use Rattle.type_settled.specs.Orders.{IsOrdered};
 
@@ -17,7 +17,9 @@ pub struct Visits {
 
 impl Visits {
     /// No type of this table is to be measured.
-    pub fn new(alloc: Global, table: &[Info]) -> Result<Visits, AllocError> {
+    pub fn new(alloc: Global, table: &[Info]) -> Result<Visits, AllocError>
+        ensures { IfOk result (λ visits. visits.stack.items ≡ []) }
+    {
         Ok(Visits {
             stack: Vec::new(alloc),
             seen: vec![in alloc; false; table.len()]?,
@@ -25,7 +27,9 @@ impl Visits {
     }
 
     /// Puts a type on the stack.
-    pub fn enter(&mut self, t: usize) -> Result<(), AllocError> {
+    pub fn enter(&mut self, t: usize) -> Result<(), AllocError>
+        ensures { OnOk result (self.new.stack.items ≡ self.old.stack.items ++ (t ∷ [])) }
+    {
         self.stack.push(t)?;
         Ok(())
     }
@@ -77,7 +81,10 @@ impl Visits {
     }
 
     /// Puts on the stack what the last type is made of, and says whether there was a type.
-    pub fn open(&mut self, done: &[bool], table: &[Info]) -> Result<bool, AllocError> {
+    pub fn open(&mut self, done: &[bool], table: &[Info]) -> Result<bool, AllocError>
+        ensures none { result ≡ Ok false → self.old.stack.items ≡ [] }
+        ensures some { result ≡ Ok true → 0 < length self.old.stack.items }
+    {
         let Some(t) = self.stack.last().copied() else {
             return Ok(false);
         };

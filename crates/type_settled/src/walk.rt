@@ -14,7 +14,7 @@ pub struct Walk {
 
 impl Walk {
     /// A walk along these chains, where no type of so many was entered.
-    pub fn new(alloc: Global, chains: Chains, types: usize) -> Result<Walk, AllocError> {
+    pub(crate) fn new(alloc: Global, chains: Chains, types: usize) -> Result<Walk, AllocError> {
         Ok(Walk {
             chains,
             entered: vec![in alloc; false; types]?,
@@ -52,7 +52,7 @@ impl Walk {
 
     /// Enters a type and all that are reached from it and weren't entered before. They are added in
     /// the order in which they are left: each after those that only it leads to.
-    pub fn walk(&mut self, t: usize, left: &mut Vec<usize>) -> Result<(), AllocError> {
+    pub(crate) fn walk(&mut self, t: usize, left: &mut Vec<usize>) -> Result<(), AllocError> {
         self.enter(t)?;
         'steps: for _step in 0..self.chains.steps() {
             if !self.step(left)? {

@@ -1,7 +1,6 @@
 -- Where no type has itself in it, the sorts of each are those of its definition.
 use Rattle.std.proofs.Common.{◌≡◌, ◌⊎◌, inl, inr, ℕ, zero, suc, ◌+◌, ◌<◌, ◌≤◌, Bool, true, false, ◌&&◌, List, [], ◌∷◌, ◌++◌, length, get_or, set, replicate, IsTrue, refl, sym, ap, ◌∙◌, arith, length-set}
 use Rattle.std.specs.Prelude.{slice_get, flat_map}
-use Rattle.std.proofs.lemmas.Grind.{common_steps}
 use Rattle.std.proofs.lemmas.Bool.{cases_eq, cases_lt}
 use Rattle.std.proofs.lemmas.List.{length-replicate, get_or-replicate, get_or-set_other}
 use Rattle.std.proofs.lemmas.Option.{slice_get-get_or, slice_get_past}
@@ -9,9 +8,8 @@ use Rattle.type_definitions.specs.declared.table.Component.{Component}
 use Rattle.type_definitions.specs.declared.table.Info.{Info}
 use Rattle.type_definitions.specs.declared.table.Shape.{Shape}
 use Rattle.type_definitions.specs.declared.table.Shape.TheVariants as shape
-use Rattle.type_definitions.specs.Types.{Table, info, info_found, shape_found, span}
+use Rattle.type_definitions.specs.Types.{Table, shape_found, span}
 use Rattle.type_settled.specs.Orders.{all_ready, shape_ready, parent_ready, is_ready, is_done}
-use Rattle.type_settled.proofs.Measured.{shape_info}
 use Rattle.machine.specs.Typed.{Sort, repeated_sorts, sorts, sorts_of, sorts_within}
 use Rattle.type_sorts.specs.Sorted.{AreSorted, LooksAt}
 

@@ -1,4 +1,4 @@
-use Rattle.std.proofs.Common.{◌≡◌, map, sym, arith}
+use Rattle.std.proofs.Common.{◌≡◌, map, arith}
 use Rattle.std.proofs.lemmas.Grind.{common_steps}
 use Rattle.flow_paths.specs.Laid.{flow_typing}
 use Rattle.laid_program.specs.Programs as laid_programs

@@ -1,4 +1,4 @@
-use Rattle.std.proofs.Common.{◌≡◌, ◌<◌, ◌∙◌, ℕ, true, false, sym, subst, length, slice_get}
+use Rattle.std.proofs.Common.{◌≡◌, ◌<◌, ◌∙◌, ℕ, true, false, sym, subst, slice_get}
 use Rattle.type_definitions.specs.Types.{Table}
 use Rattle.type_ranks.specs.Ranks.{AreRanks}
 use Rattle.settled_types.specs.TableLaws.Ranks.{rank, fits}

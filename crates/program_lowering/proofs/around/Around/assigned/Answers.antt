@@ -1,5 +1,4 @@
-use Rattle.std.proofs.Common.{◌≡◌, Some, None, sym, ap, ◌∙◌, if◌then◌else◌, arith}
-use Rattle.type_definitions.specs.Types.{is_owning}
+use Rattle.std.proofs.Common.{◌≡◌, Some, sym, ap, ◌∙◌, arith}
 use Rattle.flow_paths.specs.Names.{waiting}
 use Rattle.run_codes.specs.Lowered.{place, value}
 use Rattle.run_codes.specs.Programs.{name_pos, stored_at, use_for}

@@ -4,7 +4,7 @@ use Rattle.type_definitions.specs.Types.{shape_of}
 use Rattle.run_codes.specs.Codes as codes
 use Rattle.run_codes.specs.Flat.{default_words}
 use Rattle.run_codes.specs.Lowered.{scalar_of}
-use Rattle.run_codes.specs.Programs.{own_loop, type_of}
+use Rattle.run_codes.specs.Programs.{type_of}
 use Rattle.run_lowering.specs.Sorts.{scalar_in}
 use Rattle.code_rows.specs.Points.{next_of}
 use Rattle.program_lowering.specs.Arounds.{around, known, point_in}
