@@ -17,6 +17,7 @@ use Rattle.soundness.proofs.Contents.{word_dead, empty_hand}
 use Rattle.soundness.proofs.Defaults.{none_default, blank_word}
 use Rattle.soundness.proofs.Keeping.{cell_has}
 use Rattle.soundness.proofs.Lasting.{lengths}
+use Rattle.soundness.proofs.Parted.{null_cell, empty_held, empty_gone}
 
 -- ---- a memory without variables and cells
 
@@ -31,7 +32,7 @@ module _ (s : Typing) where
   empty_trunk (Inside l i) p t = absurd (not_inside l l i t)
 
   none_held : (l : Loc) (n : ℕ) → (seen s empty_memory [] []).word l ≡ Held n → ⊥
-  none_held l n e = let no_number = sym (empty_trunk (trunk l) (steps_in l) (trunk_trunk l)) ∙ e in cc
+  none_held l n e = empty_held (sym (empty_trunk (trunk l) (steps_in l) (trunk_trunk l)) ∙ e)
 
   all_freed : (n : ℕ) → (cell empty_memory n).freed ≡ false → ⊥
   all_freed zero e = absurd (true≢false e)
@@ -47,15 +48,15 @@ module _ (s : Typing) where
       counted = λ n a. cc;
     };
     covered = λ n less free. absurd (all_freed n free);
-    known = λ w l rooted reaches gone. (let whole = sym (empty_trunk (trunk l) (steps_in l) (trunk_trunk l)) ∙ gone in cc);
+    known = λ w l rooted reaches gone. absurd (empty_gone (sym (empty_trunk (trunk l) (steps_in l) (trunk_trunk l)) ∙ gone));
   }
 
   empty_points : (l : Loc) → Points s empty_memory (content s empty_memory [] l)
   empty_points (OfRoot (OfVariable f x)) p d c n k has is at =
       absurd (none_default s.table (object_at s x).of k (cell_has (default s.table (object_at s x).of) (offset_in s.table (object_at s x).of p) k at))
-  empty_points (OfRoot (OfHand h)) p d c n k has is at = cc
-  empty_points (OfCell zero) p d c n k has is at = cc
-  empty_points (OfCell (suc m)) p d c n k has is at = cc
+  empty_points (OfRoot (OfHand h)) p d c n k has is at = absurd (null_cell at)
+  empty_points (OfCell zero) p d c n k has is at = absurd (null_cell at)
+  empty_points (OfCell (suc m)) p d c n k has is at = absurd (null_cell at)
   empty_points (Inside l i) p d c n k has is at = empty_points l p d c n k has is at
 
   pub empty_kept : Kept s empty_memory []
@@ -66,4 +67,4 @@ module _ (s : Typing) where
   }
 
   pub empty_scope : (depth : ℕ) (scope : List ℕ) → InScope s empty_memory depth scope
-  empty_scope depth scope f x p n held = (let no_number = sym (empty_trunk (OfRoot (OfVariable f x)) p refl) ∙ held in cc)
+  empty_scope depth scope f x p n held = absurd (empty_held (sym (empty_trunk (OfRoot (OfVariable f x)) p refl) ∙ held))

@@ -24,6 +24,7 @@ use Rattle.soundness.specs.Seen.{Content, in_hand, word_in, owner_at, owner_word
 use Rattle.soundness.specs.Changes.{Alike, Put, leaks_at, is_leaked, Checks, hand, Stores, Takes}
 use Rattle.soundness.proofs.Joined.{offset_join, leaf_join, trunk_part, steps_part, trunk_trunk, below_from, below_root}
 use Rattle.soundness.proofs.Constructors.{is_gone_word, is_held_word}
+use Rattle.soundness.proofs.Parted.{held_cells, empty_held, empty_gone}
 
 pub bool_cases : (b : Bool) → (b ≡ true) ⊎ (b ≡ false)
 bool_cases true = inl refl
@@ -43,7 +44,7 @@ owner_held (machine.Cell k) true n e = cc
 owner_held (machine.Int v) false n e = cc
 owner_held (machine.Enumerated k) false n e = cc
 owner_held machine.Null false n e = cc
-owner_held (machine.Cell k) false n e = let same : k ≡ n = cc in (ap machine.Cell same, refl)
+owner_held (machine.Cell k) false n e = let same : k ≡ n = held_cells {a = k} {b = n} e in (ap machine.Cell same, refl)
 
 owner_gone : (w : machine.Word) (g : Bool) → g ≡ true → owner_at w g ≡ Gone
 owner_gone w true e = refl
@@ -246,7 +247,7 @@ module _ (table : Table) (settled : IsSettled table) where
 
       goes : (p : List Step) (n : ℕ) → word_in table (b (trunk from)) (p ++ steps_in from) ≡ Held n → ⊥
       goes p n e =
-          let s = shown table (b (trunk from)) (p ++ steps_in from) (Held n) (λ z. cc) e in
+          let s = shown table (b (trunk from)) (p ++ steps_in from) (Held n) empty_held e in
           let leaf : is_leaf table (a (trunk from)).of (p ++ steps_in from) ≡ true = ap (λ t. is_leaf table t (p ++ steps_in from)) (sym g.of) ∙ s.leaf in
           let gone = owner_gone _ _ (g.goes p leaf) in
           let at = ap (λ t. owner_word (get_or (b (trunk from)).slots (offset_in table t (p ++ steps_in from)) no_slot)) g.of in
@@ -283,7 +284,7 @@ module _ (table : Table) (settled : IsSettled table) where
       → Takes table a b h v from → (p : List Step) → (seen_of table b count dead leaks).word (part from p) ≡ Gone
       → is_leaf table (type_in table (a (trunk from)).of (steps_in from)) p ≡ true
   taken_marks a b h v from count dead leaks g p e =
-      let s = shown table (b (trunk from)) (p ++ steps_in from) Gone (λ z. cc) (sym (word_part table b from p) ∙ e) in
+      let s = shown table (b (trunk from)) (p ++ steps_in from) Gone empty_gone (sym (word_part table b from p) ∙ e) in
       sym (leaf_join table (a (trunk from)).of (steps_in from) p g.there) ∙ ap (λ t. is_leaf table t (p ++ steps_in from)) (sym g.of) ∙ s.leaf
 
 -- ---- leak checks
@@ -370,7 +371,7 @@ module _ (table : Table) (settled : IsSettled table) where
     where
       found : (p : List Step) (n : ℕ) → word_in table c (p ++ q) ≡ Held n → is_leaked (failing table c q t pos) n ≡ true
       found p n e =
-          let s = shown table c (p ++ q) (Held n) (λ z. cc) e in
+          let s = shown table c (p ++ q) (Held n) empty_held e in
           let here : is_leaf table (type_in table c.of q) p ≡ true = sym (leaf_join table c.of q p there) ∙ s.leaf in
           let mine : is_leaf table t p ≡ true = alike.leaf p ∙ here in
           let at : offset_in table c.of (p ++ q) ≡ offset_in table c.of q + offset_in table t p =

@@ -13,6 +13,7 @@ use Rattle.soundness.proofs.Joined.{trunk_trunk, not_inside}
 use Rattle.soundness.proofs.Contents.{bool_cases}
 use Rattle.soundness.proofs.Defaults.{none_default, blank_word}
 use Rattle.soundness.proofs.Memories.{found_later}
+use Rattle.soundness.proofs.Parted.{loc_cells, empty_held}
 
 -- ---- the variables of a frame are removed
 
@@ -90,7 +91,7 @@ module _ (s : Typing) (m : Memory) (f : ℕ) (hands : List Waiting) (leaks : Lis
   left_blank x p n h =
       let none = blank_word s.table (content s left hands (OfRoot (OfVariable f x))) (default s.table (object_at s x).of)
       (frame_same s f x m.variables) (none_default s.table (object_at s x).of) p in
-      let no_number = sym none ∙ h in cc
+      empty_held (sym none ∙ h)
 
   -- the number of a trunk, before and after
   abbrev Both : Loc → List Step → ℕ → Type 0
@@ -108,7 +109,7 @@ module _ (s : Typing) (m : Memory) (f : ℕ) (hands : List Waiting) (leaks : Lis
   ]
     where
       frames_differ : (g : ℕ) → (g ≡ f) ⊎ (g ≡ f → ⊥)
-      frames_differ g = elim (same_loc (OfCell g) (OfCell f)) [ inl e ↦ inl cc | inr ne ↦ inr (λ e. ne (ap OfCell e)) ]
+      frames_differ g = elim (same_loc (OfCell g) (OfCell f)) [ inl e ↦ inl (loc_cells e) | inr ne ↦ inr (λ e. ne (ap OfCell e)) ]
   by_trunk (OfRoot (OfHand h)) p n t = ((λ e. e), (λ e. e))
   by_trunk (OfCell c) p n t = ((λ e. e), (λ e. e))
   by_trunk (Inside l i) p n t = absurd (not_inside l l i t)

@@ -20,6 +20,7 @@ use Rattle.machine.specs.Evaluate as run
 use Rattle.soundness.specs.OwnedWays.Ways.{OfVariable, OfRoot}
 use Rattle.soundness.proofs.OwnedWays.Locations.{same_loc}
 use Rattle.soundness.proofs.Memories.{put_same, put_other, changed_inside, changed_outside, marked_word, marked_length, still_gone}
+use Rattle.soundness.proofs.Parted.{loc_frames, loc_objects}
 
 -- the word is the same, and what is gone stays gone
 pub record Fainter (a b : Slot) : Type 0 where
@@ -138,7 +139,7 @@ module _ (s : Typing) where
           (elim (same_loc (OfRoot (OfVariable f x)) (OfRoot (OfVariable g y))) [
             | inr ne ↦ same_slot _ _ (ap (λ z. get_or z o no_slot) (put_other s g y f x (λ a. ne (ap OfRoot (sym a))) (change g y) m.variables))
             | inl a ↦ (
-                let b : f ≡ g = cc in let c : x ≡ y = cc in
+                let b : f ≡ g = loc_frames a in let c : x ≡ y = loc_objects a in
                 subst (λ z. Fainter (get_or (variable_slots s z x m.variables) o no_slot) (get_or (variable_slots s z x (with_variable g y (change g y) m.variables)) o no_slot)) (sym b)
                 (subst (λ z. Fainter (get_or (variable_slots s g z m.variables) o no_slot) (get_or (variable_slots s g z (with_variable g y (change g y) m.variables)) o no_slot)) (sym c)
                 (subst (λ z. Fainter (get_or (variable_slots s g y m.variables) o no_slot) (get_or z o no_slot)) (sym (put_same s g y (change g y) m.variables))

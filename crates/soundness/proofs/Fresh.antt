@@ -22,6 +22,7 @@ use Rattle.soundness.proofs.Steps.{hand_top, hand_past, hand_below}
 use Rattle.soundness.proofs.Defaults.{NoCell, blank_word}
 use Rattle.soundness.proofs.Ends.{new_there, new_other, new_count}
 use Rattle.soundness.proofs.Constructors.{is_held_word}
+use Rattle.soundness.proofs.Parted.{loc_cells, root_cell, loc_hands}
 
 module _ (s : Typing) (settled : IsSettled s.table) (m : Memory) (t want : ℕ) (ws : List machine.Word) (rest : List Waiting) (leaks : List Leak)
     (long : length ws ≡ words s.table t) (own : is_leaf s.table want [] ≡ true) where
@@ -150,7 +151,7 @@ module _ (s : Typing) (settled : IsSettled s.table) (m : Memory) (t want : ℕ) 
   last_freed : (c : ℕ) → (cell last c).freed ≡ (cell mid c).freed
   last_freed c = elim (same_loc (OfCell c) (OfCell (suc (length m.cells)))) [
     | inl e ↦ (
-        let is : c ≡ suc (length m.cells) = cc in
+        let is : c ≡ suc (length m.cells) = loc_cells e in
         ap (λ n. (cell last n).freed) is ∙ ap (λ (z : HeapCell). z.freed) (new_there s m t ws)
         ∙ sym (ap (λ n. (cell mid n).freed) is ∙ ap (λ (z : HeapCell). z.freed) (new_there s m t [])))
     | inr ne ↦ ap (λ (z : HeapCell). z.freed) (new_other s m t ws c (λ e. ne (ap OfCell e)) ∙ sym (new_other s m t [] c (λ e. ne (ap OfCell e))))
@@ -177,5 +178,5 @@ module _ (s : Typing) (settled : IsSettled s.table) (m : Memory) (t want : ℕ) 
       (λ j. seen_of s.table b (sym last_count j) (λ n. sym (last_freed n) j) leaks) move0 in
       handed at_home other (seen s mid (value ∷ got ∷ rest) leaks) (seen s last (got ∷ rest) leaks) (Object (OfHand (length (got ∷ rest)))) (All (Object (OfHand (length rest))))
       (hand (length (got ∷ rest))) (OfCell (suc (length m.cells))) facts first move tt (hands (length (got ∷ rest))) refl
-      (hand (length rest), suc (length m.cells), refl, fresh_step.now, refl) (λ e. (let same : suc (length rest) ≡ length rest = cc in absurd (omega (arith, same))))
+      (hand (length rest), suc (length m.cells), refl, fresh_step.now, refl) (λ e. (let same : suc (length rest) ≡ length rest = loc_hands e in absurd (omega (arith, same))))
       (stored_whole s.table settled a b (length (got ∷ rest)) value (OfCell (suc (length m.cells))) (length last.cells) (λ n. (cell last n).freed) leaks into_cell)

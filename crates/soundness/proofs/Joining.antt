@@ -17,6 +17,7 @@ use Rattle.soundness.proofs.Joined.{not_inside, offset_join}
 use Rattle.soundness.proofs.Contents.{shown, stored_step, stored_whole}
 use Rattle.soundness.proofs.Steps.{hand_top, hand_past, hand_below}
 use Rattle.soundness.proofs.Constructors.{is_held_word}
+use Rattle.soundness.proofs.Parted.{empty_held, loc_hands}
 
 pub fresh_append : (a b : List machine.Word) → fresh (a ++ b) ≡ fresh a ++ fresh b
 fresh_append [] b = refl
@@ -72,7 +73,7 @@ module _ (s : Typing) (settled : IsSettled s.table) (m : Memory) (u t : ℕ) (ws
     owns = ap (λ (c : Content). c.owns) at_part;
     fits = fits ∙ sym (ap (λ (c : Content). words s.table (type_in s.table c.of (step ∷ []))) at_part);
     alike = subst (λ z. Alike s.table u (type_in s.table z (step ∷ []))) (sym (ap (λ (c : Content). c.of) at_part)) like;
-    apart = λ e. (let same : length rest ≡ suc (length rest) = cc in absurd (omega (arith, same)));
+    apart = λ e. (let same : length rest ≡ suc (length rest) = loc_hands e in absurd (omega (arith, same)));
   }
     where
       other : (k : Loc) → trunk k ≡ k → (k ≡ hand (length rest) → ⊥) → (k ≡ hand (length (part ∷ rest)) → ⊥)
@@ -87,7 +88,7 @@ module _ (s : Typing) (settled : IsSettled s.table) (m : Memory) (u t : ℕ) (ws
   -- nothing was there before
   nothing : (p : List Step) (n : ℕ) → word_in s.table (in_hand part) (p ++ step ∷ []) ≡ Held n → ⊥
   nothing p n e =
-      let shows = shown s.table (in_hand part) (p ++ step ∷ []) (Held n) (λ z. cc) e in
+      let shows = shown s.table (in_hand part) (p ++ step ∷ []) (Held n) empty_held e in
       let at = offset_join s.table t (step ∷ []) p in
       let long = fresh_length acc in
       let past = get_or_past (fresh acc) (offset_in s.table t (p ++ step ∷ [])) no_slot (omega (arith, at, offset, long)) in
@@ -106,5 +107,5 @@ module _ (s : Typing) (settled : IsSettled s.table) (m : Memory) (u t : ℕ) (ws
       let move = stored_step s.table settled a b (length (part ∷ rest)) value (Inside (hand (length rest)) step) (length m.cells) (λ n. (cell m n).freed) leaks leaks joins checks in
       handed at_home other (seen s m (value ∷ part ∷ rest) leaks) (seen s m (whole ∷ rest) leaks) (Object (OfHand (length (part ∷ rest)))) (Into (Object (OfHand (length rest))) step)
       (hand (length (part ∷ rest))) (Inside (hand (length rest)) step) facts sound move tt (hands (length (part ∷ rest))) refl (hand (length rest), refl, refl)
-      (λ e. (let same : suc (length rest) ≡ length rest = cc in absurd (omega (arith, same))))
+      (λ e. (let same : suc (length rest) ≡ length rest = loc_hands e in absurd (omega (arith, same))))
       (stored_whole s.table settled a b (length (part ∷ rest)) value (Inside (hand (length rest)) step) (length m.cells) (λ n. (cell m n).freed) leaks joins)

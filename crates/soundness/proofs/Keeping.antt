@@ -33,7 +33,7 @@ cell_has (w ∷ ws) zero n e = inl e
 cell_has (w ∷ ws) (suc o) n e = inr (cell_has ws o n e)
 
 no_access : (d : ℕ) (c n : Bool) (s : Shape) → s ≡ shape.Access d c n → is_scalar (view_of s) ≡ true → ⊥
-no_access d c n s e f = let is : is_scalar (view_of (shape.Access d c n)) ≡ true = ap (λ z. is_scalar (view_of z)) (sym e) ∙ f in cc
+no_access d c n s e f = let is : is_scalar (view_of (shape.Access d c n)) ≡ true = ap (λ z. is_scalar (view_of z)) (sym e) ∙ f in false≢true is
 
 nil_right : (r p : List Step) → [] ≡ r ++ p → p ≡ []
 nil_right [] p e = sym e

@@ -29,6 +29,7 @@ use Rattle.soundness.proofs.Frees.{freed_count}
 use Rattle.soundness.proofs.Evaluated.{Keeps}
 use Rattle.soundness.proofs.Defaults.{none_default}
 use Rattle.soundness.proofs.Ends.{declared_there, removed_there, new_there, new_other, new_count}
+use Rattle.soundness.proofs.Parted.{loc_frames, loc_objects, word_cells}
 
 -- ---- types
 
@@ -182,7 +183,7 @@ module _ (s : Typing) (settled : IsSettled s.table) (m : Memory) where
   put_variables (memory.OfCell n) slots long f x = refl
   put_variables (memory.OfVariable g y) slots long f x = elim (same_loc (OfRoot (OfVariable f x)) (OfRoot (OfVariable g y))) [
     | inl e ↦ (
-        let a : f ≡ g = cc in let b : x ≡ y = cc in
+        let a : f ≡ g = loc_frames e in let b : x ≡ y = loc_objects e in
         ap (λ z. length (variable_slots s z x (memory.with_variable g y slots m.variables))) a
         ∙ ap (λ z. length (variable_slots s g z (memory.with_variable g y slots m.variables))) b
         ∙ ap length (put_same s g y slots m.variables) ∙ long
@@ -320,7 +321,7 @@ module _ (s : Typing) (settled : IsSettled s.table) (m : Memory) where
           let one : d ≡ d' = cc in
           let at' : machine.Cell (suc (length m.cells)) ≡ machine.Cell k =
           ap (λ z. (get_or (fresh (machine.Cell (suc (length m.cells)) ∷ [])) (offset_in s.table want z) no_slot).word) (sym none) ∙ at in
-          let number : suc (length m.cells) ≡ k = cc in (
+          let number : suc (length m.cells) ≡ k = word_cells at' in (
             omega (arith, number),
             omega (arith, number, count),
             subst (λ z. Matches s.table z (cell (with_new_cell t ws m) k).of) one
@@ -448,7 +449,7 @@ module _ (s : Typing) (settled : IsSettled s.table) (m : Memory) where
       record {
         variables = λ g y. elim (same_loc (OfRoot (OfVariable g y)) (OfRoot (OfVariable f x))) [
           | inl e ↦ (
-              let a : g ≡ f = cc in let b : y ≡ x = cc in
+              let a : g ≡ f = loc_frames e in let b : y ≡ x = loc_objects e in
               ap (λ z. length (variable_slots s z y next.variables)) a ∙ ap (λ z. length (variable_slots s f z next.variables)) b
               ∙ ap length (put_same s f x (fresh v.words) m.variables) ∙ length-map v.words (λ w. record { word = w; gone = false }) ∙ long
               ∙ ap (λ z. words s.table (object_at s z).of) (sym b))
@@ -472,7 +473,7 @@ module _ (s : Typing) (settled : IsSettled s.table) (m : Memory) where
       record {
         variables = λ g y. elim (same_loc (OfRoot (OfVariable g y)) (OfRoot (OfVariable f x))) [
           | inl e ↦ (
-              let a : g ≡ f = cc in let b : y ≡ x = cc in
+              let a : g ≡ f = loc_frames e in let b : y ≡ x = loc_objects e in
               ap (λ z. length (variable_slots s z y next.variables)) a ∙ ap (λ z. length (variable_slots s f z next.variables)) b
               ∙ ap length (removed_same s f x m.variables) ∙ length-map (default s.table t) (λ w. record { word = w; gone = false }) ∙ lengths s.table t
               ∙ ap (λ z. words s.table (object_at s z).of) (sym b))

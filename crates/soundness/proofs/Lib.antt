@@ -3,6 +3,7 @@ pub mod TypedLaws
 -- what the rules on facts say together of accepted programs
 pub mod FactLaws
 pub mod Constructors
+pub mod Parted
 -- places, the ways that names take to them, and who owns what
 pub mod OwnedWays
 -- where the parts of a type stand among its words

@@ -14,6 +14,7 @@ use Rattle.soundness.proofs.Joined.{trunk_trunk, not_inside}
 use Rattle.soundness.proofs.Contents.{word_no}
 use Rattle.soundness.proofs.Steps.{no_leaf}
 use Rattle.soundness.proofs.Defaults.{NoCell}
+use Rattle.soundness.proofs.Parted.{loc_objects, int_cell, position_cell}
 
 -- ---- owners don't see a scalar object
 
@@ -27,7 +28,7 @@ module _ (s : Typing) (settled : IsSettled s.table) (m : Memory) (hands : List W
       → word_in s.table (content s with_others hands l) p ≡ word_in s.table (content s m hands l) p
   same_word (OfRoot (OfVariable g y)) p t = elim (same_loc (OfRoot (OfVariable f x)) (OfRoot (OfVariable g y))) [
     | inl e ↦ (
-        let object : x ≡ y = cc in
+        let object : x ≡ y = loc_objects e in
         let plain = subst (λ z. is_scalar (full s.table (object_at s z).of) ≡ true) object scalar in
         let leaf = no_leaf s.table settled (object_at s y).of plain p in
         word_no s.table (content s with_others hands (OfRoot (OfVariable g y))) p leaf
@@ -53,9 +54,9 @@ one_no_cell : (w : machine.Word) → ((k : ℕ) → w ≡ machine.Cell k → ⊥
 one_no_cell w none k has = elim has [ inl e ↦ none k e | inr e ↦ e ]
 
 pub value_plain : (ws : List machine.Word) (v : ℤ) → NoCell (steps.parameter_words ws v)
-value_plain [] v = one_no_cell (machine.Int v) (λ k e. cc)
-value_plain (machine.Enumerated n ∷ []) v = one_no_cell (machine.Enumerated (unsigned_abs v)) (λ k e. cc)
-value_plain (machine.Enumerated n ∷ (w ∷ ws)) v = one_no_cell (machine.Int v) (λ k e. cc)
-value_plain (machine.Int n ∷ ws) v = one_no_cell (machine.Int v) (λ k e. cc)
-value_plain (machine.Null ∷ ws) v = one_no_cell (machine.Int v) (λ k e. cc)
-value_plain (machine.Cell n ∷ ws) v = one_no_cell (machine.Int v) (λ k e. cc)
+value_plain [] v = one_no_cell (machine.Int v) (λ k e. int_cell e)
+value_plain (machine.Enumerated n ∷ []) v = one_no_cell (machine.Enumerated (unsigned_abs v)) (λ k e. position_cell e)
+value_plain (machine.Enumerated n ∷ (w ∷ ws)) v = one_no_cell (machine.Int v) (λ k e. int_cell e)
+value_plain (machine.Int n ∷ ws) v = one_no_cell (machine.Int v) (λ k e. int_cell e)
+value_plain (machine.Null ∷ ws) v = one_no_cell (machine.Int v) (λ k e. int_cell e)
+value_plain (machine.Cell n ∷ ws) v = one_no_cell (machine.Int v) (λ k e. int_cell e)

@@ -15,6 +15,7 @@ use Rattle.soundness.specs.Typed.{Kept}
 use Rattle.soundness.proofs.Contents.{stored_step, stored_whole}
 use Rattle.soundness.proofs.Ends.{declares}
 use Rattle.soundness.proofs.Constructors.{is_held_word}
+use Rattle.soundness.proofs.Parted.{hand_variable}
 
 -- ---- names of parts
 
@@ -45,5 +46,5 @@ module _ (s : Typing) (settled : IsSettled s.table) (at_home : ℕ → ℕ) (oth
       } in
       let move = stored_step s.table settled a b (length rest) v (OfRoot (OfVariable f x)) (length m.cells) (λ n. (cell m n).freed) leaks leaks change checks in
       handed at_home other (seen s m (v ∷ rest) leaks) (seen s (declared f x v.words m) rest leaks) (Object (OfHand (length rest))) (Object (OfVariable f x))
-      (hand (length rest)) (OfRoot (OfVariable f x)) facts sound move tt (hands (length rest)) refl refl (λ e. cc)
+      (hand (length rest)) (OfRoot (OfVariable f x)) facts sound move tt (hands (length rest)) refl refl hand_variable
       (stored_whole s.table settled a b (length rest) v (OfRoot (OfVariable f x)) (length m.cells) (λ n. (cell m n).freed) leaks change)

@@ -34,6 +34,7 @@ use Rattle.soundness.proofs.Keeping.{cell_has}
 use Rattle.soundness.proofs.Fading.{FadesTo, still, then_fades, if_fades, checked_fades, fades, steps_fade}
 use Rattle.soundness.proofs.Scoped.{OnlyAt, NoVariable, only_same, only_then, only_fades, only_stored, only_declared, only_freed, MayHold, Inside, scope_kept, scope_ends, IsFrom, LeadsFrom, walked_from}
 use Rattle.soundness.proofs.Constructors.{is_of_variable_base}
+use Rattle.soundness.proofs.Parted.{loc_frames, loc_objects, base_frames, base_objects}
 
 -- Of the state that a step goes on to.
 abbrev pub Each : (State → Type 0) → Outcome → Type 0
@@ -148,8 +149,8 @@ module _ (t : Turn) (Left : List Waiting → Type 0) (left : Left (waiting t)) (
         there : IsFrom (base_named x) k → (f y : ℕ) → k.base ≡ memory.OfVariable f y → MayHold s older depth scope' f y
         there (inl is) f y e =
             let same : base_named x ≡ memory.OfVariable f y = sym is ∙ e in
-            let frames : home s depth x ≡ f = cc in
-            let objects : x ≡ y = cc in
+            let frames : home s depth x ≡ f = base_frames same in
+            let objects : x ≡ y = base_objects same in
             subst (λ z. MayHold s older depth scope' z y) frames (subst (λ z. MayHold s older depth scope' (home s depth x) z) objects holds)
         there (inr (c, is)) f y e = (let same : memory.OfCell c ≡ memory.OfVariable f y = sym is ∙ e in absurd (false≢true (ap is_of_variable_base same)))
 
@@ -165,8 +166,8 @@ module _ (t : Turn) (Left : List Waiting → Type 0) (left : Left (waiting t)) (
         scope_kept s older (λ f y. memory.OfVariable depth x ≡ memory.OfVariable f y) before (declared depth x ws m) depth scope scope'
         (only_then s (λ f y. memory.OfVariable depth x ≡ memory.OfVariable f y) before m (declared depth x ws m) only (only_declared s depth x ws m)) within more
         (λ f y e. (
-        let frames : depth ≡ f = cc in
-        let objects : x ≡ y = cc in
+        let frames : depth ≡ f = base_frames e in
+        let objects : x ≡ y = base_objects e in
         inr (sym frames, subst (λ z. is_within z scope' ≡ true) objects there)))
 
     pub declare_on : (x : ℕ) (v : TypedTree) → is_within x scope' ≡ true → Each Declares (steps.declare t x v)
@@ -443,7 +444,7 @@ module _ (t : Turn) (Left : List Waiting → Type 0) (left : Left (waiting t)) (
     only_undeclared : (g y : ℕ) (m : Memory) → OnlyAt s NoVariable m (undeclared g y m)
     only_undeclared g y m f x o c e = elim (same_loc (OfRoot (ways.OfVariable g y)) (OfRoot (ways.OfVariable f x))) [
       | inl same ↦ (
-          let frames : g ≡ f = cc in let objects : y ≡ x = cc in
+          let frames : g ≡ f = loc_frames same in let objects : y ≡ x = loc_objects same in
           let words : List machine.Word = default s.table (object_at s y).of in
           let there : get_or (variable_slots s g y (undeclared g y m).variables) o no_slot ≡ owned c =
           subst (λ z. get_or (variable_slots s z y (undeclared g y m).variables) o no_slot ≡ owned c) (sym frames)

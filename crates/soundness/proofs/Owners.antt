@@ -17,6 +17,7 @@ use Rattle.soundness.specs.Sound.{view_of}
 use Rattle.soundness.proofs.Joined.{trunk_part, whole, not_inside}
 use Rattle.soundness.proofs.Lasting.{ownerless}
 use Rattle.soundness.proofs.Contents.{bool_cases, owner_held, word_yes, word_part, Shown, shown, any_from}
+use Rattle.soundness.proofs.Parted.{loc_cells, empty_held, cell_root, cell_inside}
 
 slot_of : (x : Slot) (n : ℕ) → owner_word x ≡ Held n → x ≡ owned n
 slot_of x n e = let is = owner_held x.word x.gone n e in (λ j. record { word = is.0 j; gone = is.1 j })
@@ -149,7 +150,7 @@ module _ (s : Typing) (settled : IsSettled s.table) (own_law : OwnsByShape s.tab
   by_trunk l n (Inside a i) e shows = absurd (not_inside l a i e)
 
   owned_at : (l : Loc) (n : ℕ) → (view_of s state).word l ≡ Held n → OwnedAt l n
-  owned_at l n e = by_trunk l n (trunk l) refl (shown s.table (seen_at (trunk l)) (steps_in l) (Held n) (λ z. cc) e)
+  owned_at l n e = by_trunk l n (trunk l) refl (shown s.table (seen_at (trunk l)) (steps_in l) (Held n) empty_held e)
 
   leaked_is : (n : ℕ) → (view_of s state).leaked n ≡ true → IsLeaked state n
   leaked_is n e = let found = any_from (λ (leak : Leak). leak.number == n) state.leaks e in (found.0, found.1, eqb-true found.0.number n found.2)
@@ -168,10 +169,10 @@ module _ (s : Typing) (settled : IsSettled s.table) (own_law : OwnsByShape s.tab
       }
 
   reached : (n : ℕ) (w : Way) → Reaches (view_of s state) w (OfCell n) → IsLeaked state n ⊎ HasOneOwner s state n
-  reached n (Object r) e = cc
-  reached n (Lost c) (lost, e) = let same : n ≡ c = cc in inl (subst (IsLeaked state) (sym same) (leaked_is c lost))
-  reached n (Into w i) (l, r, e) = cc
-  reached n (All w) (l, c, r, held, e) = let same : n ≡ c = cc in inr (subst (HasOneOwner s state) (sym same) (one_owner l c held))
+  reached n (Object r) e = absurd (cell_root e)
+  reached n (Lost c) (lost, e) = let same : n ≡ c = loc_cells e in inl (subst (IsLeaked state) (sym same) (leaked_is c lost))
+  reached n (Into w i) (l, r, e) = absurd (cell_inside e)
+  reached n (All w) (l, c, r, held, e) = let same : n ≡ c = loc_cells e in inr (subst (HasOneOwner s state) (sym same) (one_owner l c held))
 
   by_owner : (l : Loc) (c : ℕ) (h : Holder) (o : ℕ) → Owns s state h o c → Stands h o l
       → ((d : ℕ) (p : List Step) → l ≡ part (OfCell d) p → IsHeld s state d) → IsHeld s state c
@@ -181,11 +182,11 @@ module _ (s : Typing) (settled : IsSettled s.table) (own_law : OwnsByShape s.tab
 
   is_held : (k : ℕ) (w : Way) (n : ℕ) → depth w < k → Reaches (view_of s state) w (OfCell n) → IsHeld s state n
   is_held zero w n less r = absurd (omega (arith, less))
-  is_held (suc k) (Object r0) n less e = cc
-  is_held (suc k) (Lost c) n less (lost, e) = let same : n ≡ c = cc in subst (IsHeld s state) (sym same) (leaked c (leaked_is c lost))
-  is_held (suc k) (Into w i) n less (l, r, e) = cc
+  is_held (suc k) (Object r0) n less e = absurd (cell_root e)
+  is_held (suc k) (Lost c) n less (lost, e) = let same : n ≡ c = loc_cells e in subst (IsHeld s state) (sym same) (leaked c (leaked_is c lost))
+  is_held (suc k) (Into w i) n less (l, r, e) = absurd (cell_inside e)
   is_held (suc k) (All w) n less (l, c, r, h, e) =
-      let same : n ≡ c = cc in
+      let same : n ≡ c = loc_cells e in
       let found = owned_at l c h in
       subst (IsHeld s state) (sym same) (by_owner l c found.0 found.1 found.2 found.3 (λ d p is. (
       let up = strip (view_of s state) d p w (subst (Reaches (view_of s state) w) is r) in

@@ -1,7 +1,7 @@
 -- Which variables own cells after a change of memory: those that did before, and those that are
 -- stored at.
 use Rattle.std.proofs.Common.{◌≡◌, refl, sym, ap, ◌∙◌, subst, ◌⊎◌, inl, inr, ℕ, ◌+◌, Bool, true, false, not, ◌||◌, ◌==◌, eqb-true, List, [], ◌∷◌, ◌++◌, take, drop, length, get_or, if◌then◌else◌}
-use Rattle.std.proofs.lemmas.Bool.{true≢false}
+use Rattle.std.proofs.lemmas.Bool.{true≢false, false≢true}
 use Rattle.machine.specs.flow_paths.Objects.{Typing, object_at, designated}
 use Rattle.machine.specs.flow_paths.Scopes.{is_within, is_last}
 use Rattle.machine.specs.Words as machine
@@ -18,6 +18,7 @@ use Rattle.soundness.specs.Sound.{HoldOnly}
 use Rattle.soundness.proofs.Contents.{bool_cases, owner_held, word_yes, shown}
 use Rattle.soundness.proofs.Memories.{put_other, removed_other}
 use Rattle.soundness.proofs.Fading.{Fainter, Fades}
+use Rattle.soundness.proofs.Parted.{loc_frames, loc_objects, empty_held}
 
 abbrev pub NoVariable : ℕ → ℕ → Type 0
 NoVariable f x = ⊥
@@ -59,7 +60,7 @@ module _ (s : Typing) where
   pub only_put : (b : Base) (slots : List Slot) (m : Memory) → OnlyAt (λ f x. b ≡ OfVariable f x) m (put b slots m)
   only_put (OfCell k) slots m f x o c e = inl e
   only_put (OfVariable g y) slots m f x o c e = elim (same_loc (OfRoot (ways.OfVariable g y)) (OfRoot (ways.OfVariable f x))) [
-    | inl same ↦ (let frames : g ≡ f = cc in let objects : y ≡ x = cc in inr (λ j. OfVariable (frames j) (objects j)))
+    | inl same ↦ (let frames : g ≡ f = loc_frames same in let objects : y ≡ x = loc_objects same in inr (λ j. OfVariable (frames j) (objects j)))
     | inr ne ↦ inl (ap (λ z. get_or z o no_slot) (sym (put_other s g y f x (λ a. ne (ap OfRoot a)) slots m.variables)) ∙ e)
   ]
 
@@ -89,7 +90,7 @@ module _ (s : Typing) where
       → word_in s.table (content s n [] (OfRoot (ways.OfVariable f x))) p ≡ Held c
       → (word_in s.table (content s m [] (OfRoot (ways.OfVariable f x))) p ≡ Held c) ⊎ these f x
   held_before these m n only f x p c held =
-      let shows = shown s.table (content s n [] (OfRoot (ways.OfVariable f x))) p (Held c) (λ z. cc) held in
+      let shows = shown s.table (content s n [] (OfRoot (ways.OfVariable f x))) p (Held c) empty_held held in
       elim (only f x (offset_in s.table (object_at s x).of p) c (held_slot _ c shows.slot)) [
         | inl before ↦ inl (owned_held (content s m [] (OfRoot (ways.OfVariable f x))) p c shows.owns shows.leaf before)
         | inr one ↦ inr one
@@ -114,10 +115,10 @@ module _ (s : Typing) where
   ended_blank : (depth x : ℕ) (m : Memory) → (p : List Step) (n : ℕ)
       → (word_in s.table (content s (undeclared depth x m) [] (OfRoot (ways.OfVariable depth x))) p ≡ Empty)
       → word_in s.table (content s (undeclared depth x m) [] (OfRoot (ways.OfVariable depth x))) p ≡ Held n → ⊥
-  ended_blank depth x m p n blank held = let no_number = sym blank ∙ held in cc
+  ended_blank depth x m p n blank held = empty_held (sym blank ∙ held)
 
   last_out : (x y : ℕ) (scope : List ℕ) → is_last x scope ≡ true → is_within y scope ≡ true → (y ≡ x → ⊥) → is_within y (drop 1 scope) ≡ true
-  last_out x y [] last within ne = cc
+  last_out x y [] last within ne = absurd (false≢true last)
   last_out x y (z ∷ rest) last within ne = elim (bool_cases (y == z)) [
     | inl e ↦ absurd (ne (eqb-true y z e ∙ sym (eqb-true x z last)))
     | inr e ↦ drop_one rest (sym (ap (λ b. b || is_within y rest) e) ∙ within)
@@ -132,7 +133,7 @@ module _ (s : Typing) where
       → Inside older (undeclared depth x m) depth (drop 1 scope)
   scope_ends older m depth x scope within last blank f y p n held = elim (same_loc (OfRoot (ways.OfVariable depth x)) (OfRoot (ways.OfVariable f y))) [
     | inl same ↦ (
-        let frames : depth ≡ f = cc in let objects : x ≡ y = cc in
+        let frames : depth ≡ f = loc_frames same in let objects : x ≡ y = loc_objects same in
         absurd (ended_blank depth x m p n (blank p)
         (subst (λ z. word_in s.table (content s (undeclared depth x m) [] (OfRoot (ways.OfVariable z x))) p ≡ Held n) (sym frames)
         (subst (λ z. word_in s.table (content s (undeclared depth x m) [] (OfRoot (ways.OfVariable f z))) p ≡ Held n) (sym objects) held))))

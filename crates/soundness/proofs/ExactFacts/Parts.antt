@@ -1,5 +1,5 @@
 -- An access part without an element is one word that owns.
-use Rattle.std.proofs.Common.{◌≡◌, refl, sym, ap, ◌∙◌, subst, inl, inr, ℕ, suc, ◌+◌, ◌<◌, true, false, List, [], ◌∷◌, ◌++◌, map, length, get_or, arith, append_assoc, append-nil, nat_lt, lt-ltb}
+use Rattle.std.proofs.Common.{◌≡◌, refl, sym, ap, ◌∙◌, subst, inl, inr, ℕ, suc, ◌+◌, ◌<◌, true, false, List, [], ◌∷◌, ◌++◌, map, length, get_or, arith, append_assoc, append-nil, nat_lt, lt-ltb, true≢false}
 use Rattle.machine.specs.spark_base.Lists.{Has}
 use Rattle.spark_base.proofs.Lists.{Has-append_cases, Has-map_from}
 use Rattle.machine.specs.place_names.declared.selector.Sel.{Sel}
@@ -110,7 +110,7 @@ module _ (table : Table) (settled : IsSettled table) where
         at = omega (arith, at);
         only = ap (map (λ o. words_before table u i + o)) rest.only;
       }
-  plain_leaf t p (Elem ∷ q) has plain h = cc
+  plain_leaf t p (Elem ∷ q) has plain h = absurd (true≢false plain)
   plain_leaf t p (Deref ∷ q) has plain h =
       absurd (no_deref (parts table) (shape_of table (type_in table t p)) (settled.plain (type_in table t p)) q
       (subst (λ z. Has z (Deref ∷ q)) (settled.part_law (type_in table t p)) h))

@@ -112,7 +112,7 @@ module _ (home : ℕ → ℕ) (observer : ℕ → Bool) (other : Around home) (v
       → IsPassed home observer v s x w → observer x ≡ false → (y : ℕ) (u : Way) → t.way y ≡ Some u → (y ≡ x → ⊥) → (Named home (t.up y) → ⊥)
       → Under w u ⊎ Under u w → (c : Bool) → (y == b) ≡ c → ⊥
   old_alone s facts fits x w off has passed plain y u there differs given meets false e =
-      let other_one : y ≡ b → ⊥ = λ same. (let is = eq-eqb y b same in cc) in
+      let other_one : y ≡ b → ⊥ = λ same. false≢true (sym e ∙ eq-eqb y b same) in
       passed.alone plain y u (sym (becomes.ways y other_one) ∙ there) differs (λ named. given (subst (Named home) (sym (becomes.ups y other_one)) named)) meets
   old_alone s facts fits x w off has passed plain y u there differs given meets true e =
       let same = eqb-true y b e in
@@ -192,7 +192,7 @@ module _ (home : ℕ → ℕ) (observer : ℕ → Bool) (other : Around home) (v
           part_apart : (x : ℕ) (p : List Step) (w : Way) → v.part_way x p ≡ Some w → (y : ℕ) (u : Way) → t.way y ≡ Some u → (Named home (t.up y) → ⊥) → observer y ≡ false
               → Under u w ⊎ Under w u → (c : Bool) → (y == b) ≡ c → ⊥
           part_apart x p w old y u there given plain meets false e =
-              let off : y ≡ b → ⊥ = λ same. (let is = eq-eqb y b same in cc) in
+              let off : y ≡ b → ⊥ = λ same. false≢true (sym e ∙ eq-eqb y b same) in
               (viewed.views.1 x p w old).apart y u (sym (becomes.ways y off) ∙ there) (λ named. given (subst (Named home) (sym (becomes.ups y off)) named)) plain meets
           part_apart x p w old y u there given plain meets true e = by_fit (fits u (sym becomes.way_is ∙ ap t.way (sym (eqb-true y b e)) ∙ there))
             where
@@ -213,7 +213,7 @@ module _ (home : ℕ → ℕ) (observer : ℕ → Bool) (other : Around home) (v
       not_past : (x : ℕ) (w : Way) → t.way x ≡ Some w → (Named home (t.up x) → ⊥) → observer x ≡ false → (k : Way) (m : ℕ) → other.kept k m → Past w k
           → (c : Bool) → (x == b) ≡ c → ⊥
       not_past x w has given plain k m keeps goes false e =
-          let off : x ≡ b → ⊥ = λ same. (let is = eq-eqb x b same in cc) in
+          let off : x ≡ b → ⊥ = λ same. false≢true (sym e ∙ eq-eqb x b same) in
           viewed.past x w (sym (becomes.ways x off) ∙ has) (λ named. given (subst (Named home) (sym (becomes.ups x off)) named)) plain k m keeps goes
       not_past x w has given plain k m keeps goes true e = by_fit (fits w (sym becomes.way_is ∙ ap t.way (sym (eqb-true x b e)) ∙ has))
         where
@@ -229,10 +229,10 @@ module _ (home : ℕ → ℕ) (observer : ℕ → Bool) (other : Around home) (v
       new_given x given e named = given (subst (Named home) (sym (ap t.up (eqb-true x b e) ∙ becomes.up_is)) named)
 
       old_way : (x : ℕ) (w : Way) → t.way x ≡ Some w → (x == b) ≡ false → v.way x ≡ Some w
-      old_way x w has e = sym (becomes.ways x (λ same. (let is = eq-eqb x b same in cc))) ∙ has
+      old_way x w has e = sym (becomes.ways x (λ same. false≢true (sym e ∙ eq-eqb x b same))) ∙ has
 
       was_given : (x : ℕ) → (Named home (t.up x) → ⊥) → (x == b) ≡ false → Named home (v.up x) → ⊥
-      was_given x given e named = given (subst (Named home) (sym (becomes.ups x (λ same. (let is = eq-eqb x b same in cc)))) named)
+      was_given x given e named = given (subst (Named home) (sym (becomes.ups x (λ same. false≢true (sym e ∙ eq-eqb x b same)))) named)
 
       by_root : (x : ℕ) (w z : Way) → t.way x ≡ Some w → IsOuter home t x w → other.gone z → Under z w ⊎ Under w z → (c : Bool) → (x == b) ≡ c → ⊥
       by_root x w z has outer gone meets true e =
@@ -260,7 +260,7 @@ module _ (home : ℕ → ℕ) (observer : ℕ → Bool) (other : Around home) (v
           subst (λ z. IsView home observer t s facts' z w ⊎ IsPassed home observer t s z w) (sym same)
           (fit w (fits w (sym becomes.way_is ∙ ap t.way (sym same) ∙ has)))
       by_object x w has false e =
-          let off : x ≡ b → ⊥ = λ same. (let is = eq-eqb x b same in cc) in
+          let off : x ≡ b → ⊥ = λ same. false≢true (sym e ∙ eq-eqb x b same) in
           let old = sym (becomes.ways x off) ∙ has in
           old_either s facts facts' fits x w off old (λ named. unused.untaken x w old named off) (viewed.views.0 x w old) loans
 

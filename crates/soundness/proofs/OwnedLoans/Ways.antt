@@ -312,4 +312,4 @@ home_or_foreign home w (f, y, base) = by_frame (f == home y) refl
   where
     by_frame : (b : Bool) → (f == home y) ≡ b → Named home w ⊎ IsForeign home w
     by_frame true e = inl (named_base_of home w y (base ∙ ap (λ z. OfRoot (OfVariable z y)) (eqb-true f (home y) e)))
-    by_frame false e = inr (f, y, base, λ same. (let is = eq-eqb f (home y) same in cc))
+    by_frame false e = inr (f, y, base, λ same. false≢true (sym e ∙ eq-eqb f (home y) same))

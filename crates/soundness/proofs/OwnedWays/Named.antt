@@ -104,6 +104,21 @@ elem_end (Field i ∷ a) e = elem_end a e
 elem_end (Elem ∷ a) e = absurd (true≢false e)
 elem_end (Deref ∷ a) e = elem_end a e
 
+field_same : {i j : ℕ} → Field i ≡ Field j → i ≡ j
+field_same e = cc
+
+field_elem : {i : ℕ} → Field i ≡ Elem → ⊥
+field_elem e = cc
+
+field_deref : {i : ℕ} → Field i ≡ Deref → ⊥
+field_deref e = cc
+
+deref_field : {i : ℕ} → Deref ≡ Field i → ⊥
+deref_field e = cc
+
+deref_elem : Deref ≡ Elem → ⊥
+deref_elem e = cc
+
 same_root : (home : ℕ → ℕ) (r q : Root) → IsAt home r → IsAt home q → object_of r ≡ object_of q → r ≡ q
 same_root home (OfVariable f x) (OfVariable g y) n m e = let is : f ≡ home x = n in let so : g ≡ home y = m in cc
 same_root home (OfVariable f x) (OfHand h) n m e = absurd m
@@ -121,17 +136,16 @@ same_way home (Into k i) (Lost y) n m r e h = absurd m
 same_way home (Into k (Component i)) (Into w (Component j)) n m r e h =
     let both = same_ends (sels_of k) (sels_of w) (Field i) (Field j) e in
     let rest = same_way home k w n m r both.0 (elem_front (sels_of k) (Field i) h) in
-    let last = both.1 in
-    let step : i ≡ j = cc in
+    let step : i ≡ j = field_same both.1 in
     ap (λ x. Into x (Component i)) rest ∙ ap (λ x. Into w (Component x)) step
-same_way home (Into k (Component i)) (Into w (Element j)) n m r e h = let both = same_ends (sels_of k) (sels_of w) (Field i) Elem e in let last = both.1 in cc
+same_way home (Into k (Component i)) (Into w (Element j)) n m r e h = absurd (field_elem (same_ends (sels_of k) (sels_of w) (Field i) Elem e).1)
 same_way home (Into k (Element i)) (Into w j) n m r e h = absurd (elem_end (sels_of k) h)
-same_way home (Into k (Component i)) (All w) n m r e h = let both = same_ends (sels_of k) (sels_of w) (Field i) Deref e in let last = both.1 in cc
+same_way home (Into k (Component i)) (All w) n m r e h = absurd (field_deref (same_ends (sels_of k) (sels_of w) (Field i) Deref e).1)
 same_way home (Into k (Element i)) (All w) n m r e h = absurd (elem_end (sels_of k) h)
 same_way home (All k) (Object y) n m r e h = absurd (no_end (sels_of k) Deref (sym e))
 same_way home (All k) (Lost y) n m r e h = absurd m
-same_way home (All k) (Into w (Component j)) n m r e h = let both = same_ends (sels_of k) (sels_of w) Deref (Field j) e in let last = both.1 in cc
-same_way home (All k) (Into w (Element j)) n m r e h = let both = same_ends (sels_of k) (sels_of w) Deref Elem e in let last = both.1 in cc
+same_way home (All k) (Into w (Component j)) n m r e h = absurd (deref_field (same_ends (sels_of k) (sels_of w) Deref (Field j) e).1)
+same_way home (All k) (Into w (Element j)) n m r e h = absurd (deref_elem (same_ends (sels_of k) (sels_of w) Deref Elem e).1)
 same_way home (All k) (All w) n m r e h =
     let both = same_ends (sels_of k) (sels_of w) Deref Deref e in
     ap All (same_way home k w n m r both.0 (elem_front (sels_of k) Deref h))

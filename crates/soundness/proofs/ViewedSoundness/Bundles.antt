@@ -48,6 +48,7 @@ use Rattle.soundness.proofs.ViewedSoundness.Given.{lent_whole, seen_whole, part_
 use Rattle.soundness.proofs.ViewedSoundness.Names as names
 use Rattle.soundness.proofs.ViewedSoundness.Stays.{Goes, steps_taking}
 use Rattle.soundness.proofs.ViewedSoundness.Viewing.{expand_down}
+use Rattle.soundness.proofs.Parted.{not_empty}
 
 -- ---- parts of places
 
@@ -212,8 +213,8 @@ module _ (h : Here) (sees : ℕ → Bool) (seeing : Seeing h.typing sees) (settl
   -- the types of parts are named
   part_type : (t : ℕ) (p : List Step) (d : ℕ) (c n : Bool) → IsNoAccess t → shape_of h.typing.table (type_in h.typing.table t p) ≡ shape.Access d c n → (p ≡ [] → ⊥) × (n ≡ true)
   part_type t [] d c n bare is = absurd (bare d c n is)
-  part_type t (Component i ∷ p) d c n bare is = ((λ none. cc), parts_named.component (type_in s.table t p) i d c n is)
-  part_type t (Element k ∷ p) d c n bare is = ((λ none. cc), parts_named.element (type_in s.table t p) d c n is)
+  part_type t (Component i ∷ p) d c n bare is = ((λ none. absurd (not_empty none)), parts_named.component (type_in s.table t p) i d c n is)
+  part_type t (Element k ∷ p) d c n bare is = ((λ none. absurd (not_empty none)), parts_named.element (type_in s.table t p) d c n is)
 
   -- ---- where the name stands for a place of an owner
 

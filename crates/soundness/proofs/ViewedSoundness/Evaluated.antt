@@ -57,13 +57,14 @@ use Rattle.soundness.proofs.Waits.{drop_none}
 use Rattle.soundness.specs.ViewedSoundness.Taken.{GivesPlainly}
 use Rattle.soundness.proofs.ViewedSoundness.Moments.{from_sound, hands_spared, other_hands, with_cell, taken_viewed}
 use Rattle.soundness.proofs.ViewedSoundness.Stays.{Goes, no_selectors, taking, steps_taking, name_on, waited_quiet}
+use Rattle.soundness.proofs.Parted.{null_cell}
 
 pub keep_both : (fixed : PlaceName → Bool) (a b : List Act) → AllKeep fixed (a ++ b) → AllKeep fixed a × AllKeep fixed b
 keep_both fixed [] b k = (tt, k)
 keep_both fixed (x ∷ a) b (k, rest) = let both = keep_both fixed a b rest in ((k, both.0), both.1)
 
 scalar_access : (sh : Shape) (d : ℕ) (c n : Bool) → sh ≡ shape.Access d c n → is_scalar (view_shape sh) ≡ true → ⊥
-scalar_access sh d c n is scalar = let no : is_scalar (view_shape (shape.Access d c n)) ≡ true = ap (λ z. is_scalar (view_shape z)) (sym is) ∙ scalar in cc
+scalar_access sh d c n is scalar = let no : is_scalar (view_shape (shape.Access d c n)) ≡ true = ap (λ z. is_scalar (view_shape z)) (sym is) ∙ scalar in false≢true no
 
 -- a type that matches one that isn't anonymous isn't either
 pub matches_named : (table : Table) (t u : ℕ) → Matches table t u → IsNamed table t → IsNamed table u
@@ -437,11 +438,11 @@ module _ (h : Here) (sees : ℕ → Bool) (seeing : Seeing h.typing sees) (settl
       → is_owning h.typing.table (machine.element_type h.typing.table t) ≡ false → is_owning h.typing.table t ≡ false
   elements_plain t (shape.Elements low high el) e is none =
       own_law t ∙ ap (owns_of (is_owning h.typing.table)) e ∙ ap (λ z. is_owning h.typing.table (machine.element_of z)) (sym e) ∙ none
-  elements_plain t (shape.Whole a b) e is none = cc
-  elements_plain t (shape.Listed l a b) e is none = cc
-  elements_plain t (shape.Access d c n) e is none = cc
-  elements_plain t (shape.Fields cs) e is none = cc
-  elements_plain t (shape.Same of) e is none = cc
+  elements_plain t (shape.Whole a b) e is none = absurd (false≢true is)
+  elements_plain t (shape.Listed l a b) e is none = absurd (false≢true is)
+  elements_plain t (shape.Access d c n) e is none = absurd (false≢true is)
+  elements_plain t (shape.Fields cs) e is none = absurd (false≢true is)
+  elements_plain t (shape.Same of) e is none = absurd (false≢true is)
 
   abbrev pub repeats : ℕ → List machine.Word → Now → Evaluated (List machine.Word)
   repeats t ws now = Done (machine.repeated (machine.element_count h.typing.table t) ws) now
@@ -474,7 +475,7 @@ module _ (h : Here) (sees : ℕ → Bool) (seeing : Seeing h.typing sees) (settl
       else Raises run.ConstraintError (record { memory = m; waits = on })) (repeats t))
   nulls_given on t m hands facts array one ready true = (
     blank_ready m hands facts t (machine.repeated (machine.element_count h.typing.table t) (machine.Null ∷ []))
-        (none_repeated (machine.element_count h.typing.table t) (machine.Null ∷ []) (λ k h. elim h [ inl e ↦ cc | inr none ↦ none ])) ready,
+        (none_repeated (machine.element_count h.typing.table t) (machine.Null ∷ []) (λ k h. elim h [ inl e ↦ null_cell e | inr none ↦ none ])) ready,
     repeated_long h.typing settled t (machine.Null ∷ []) (shape_of h.typing.table t) refl array (sym one),
     refl,
   )
@@ -504,7 +505,7 @@ module _ (h : Here) (sees : ℕ → Bool) (seeing : Seeing h.typing sees) (settl
     evaluated_on EndOfFile want scalar calls before on takes m hands facts ready allowed own keep =
         scalar_on on m hands facts facts want ready refl scalar (evaluate h AsValue EndOfFile (record { memory = m; waits = before })) (still m before on takes, refl)
     evaluated_on typed.Null want one calls before on takes m hands facts ready allowed own keep =
-        (blank_ready m hands facts want (machine.Null ∷ []) (λ k h. elim h [ inl e ↦ cc | inr none ↦ none ]) ready, sym one, takes_zero before on takes)
+        (blank_ready m hands facts want (machine.Null ∷ []) (λ k h. elim h [ inl e ↦ null_cell e | inr none ↦ none ]) ready, sym one, takes_zero before on takes)
     evaluated_on (Parens e) want gives calls before on takes m hands facts ready allowed own keep = evaluated_on e want gives calls before on takes m hands facts ready allowed own keep
     evaluated_on (Unary op e) want (scalar, stays) calls before on takes m hands facts ready allowed own keep =
         by_quiet (Unary op e) want scalar stays before on takes m hands facts ready allowed

@@ -58,6 +58,7 @@ use Rattle.soundness.proofs.ViewedSoundness.Stays.{steps_taking}
 use Rattle.soundness.proofs.ViewedSoundness.Viewing.{IsReached, IsOfType, way_from, number_in, borrower_declared, observer_stored, part_seen, view_again, view_emptied, borrower_stored}
 use Rattle.soundness.proofs.ViewedSoundness.Sources.{Shows, source_on}
 use Rattle.soundness.proofs.ViewedSoundness.Outcomes.{IsGood, IsSame, Comes, Turned, Leads_on, raises, goes_to, goes_on, live}
+use Rattle.soundness.proofs.Parted.{int_cell, position_cell, null_cell}
 
 -- ---- what matches one type
 
@@ -195,7 +196,7 @@ module _ (t : Turn) (sees : ℕ → Bool) (seeing : Seeing (typing t) sees) (set
           subst (λ z. Same_here views z ⊎ ((y : ℕ) × may z y × Comes_here views facts z y w)) same
           (inr (y, mine, comes w (sym becomes.way_is ∙ ap views.way same ∙ e)))
       by_object q w e false b =
-          let off : q ≡ x → ⊥ = λ same. (let no = eq-eqb q x same in cc) in
+          let off : q ≡ x → ⊥ = λ same. false≢true (sym b ∙ eq-eqb q x same) in
           inl (record { way = becomes.ways q off; loan = becomes.loans q off; up = becomes.ups q off })
 
   -- what a name stands for that is rooted in a view goes on from the way of that
@@ -259,7 +260,7 @@ module _ (t : Turn) (sees : ℕ → Bool) (seeing : Seeing (typing t) sees) (set
       by_object : (q : ℕ) (k : Way) → views.way q ≡ Some k → (b : Bool) → (q == x) ≡ b → Same_here views q ⊎ ((y : ℕ) × may q y × Comes_here views facts q y k)
       by_object q k e true b = absurd (no_way z k (sym becomes.way_is ∙ ap views.way (sym (eqb-true q x b)) ∙ e) null)
       by_object q k e false b =
-          let off : q ≡ x → ⊥ = λ same. (let no = eq-eqb q x same in cc) in
+          let off : q ≡ x → ⊥ = λ same. false≢true (sym b ∙ eq-eqb q x same) in
           inl (record { way = becomes.ways q off; loan = becomes.loans q off; up = becomes.ups q off })
 
   fact_added : (a : Act) (facts : List Fact) (f : Fact) → Has (adds a) f → Has (effect a facts) f
@@ -485,9 +486,9 @@ module _ (t : Turn) (sees : ℕ → Bool) (seeing : Seeing (typing t) sees) (set
         | inl bundle ↦ through_part k ((goes k refl).1 bundle) bundle is typed
         | inr bare ↦ through_way k ((goes k refl).0 bare view_y) is typed
       ]
-      by_word (machine.Int k) is typed goes = nothing (machine.Int k) (λ q e. cc) is typed
-      by_word (machine.Enumerated k) is typed goes = nothing (machine.Enumerated k) (λ q e. cc) is typed
-      by_word machine.Null is typed goes = nothing machine.Null (λ q e. cc) is typed
+      by_word (machine.Int k) is typed goes = nothing (machine.Int k) (λ q e. int_cell e) is typed
+      by_word (machine.Enumerated k) is typed goes = nothing (machine.Enumerated k) (λ q e. position_cell e) is typed
+      by_word machine.Null is typed goes = nothing machine.Null (λ q e. null_cell e) is typed
 
   -- an observer does
   pub through_gets : (b : Bool) (x y d : ℕ) (path : TypedTree) (facts : List Fact) → Sees x d → Good v facts t.state
@@ -687,9 +688,9 @@ module _ (t : Turn) (sees : ℕ → Bool) (seeing : Seeing (typing t) sees) (set
           (becomes_with v x (way_from z (expand v (on (All w) r))) (v.loan l.0.object) (next_of v (on (All w) r) l.0) (number_in z)) mine
           (root_on (All w) r ∙ ap (λ (n : PlaceName). n.root) called) (λ observes. observes) in
           (views, (got.sound, got.words_kept, got.views_held, turned))
-      by_word (machine.Int k) is typed goes = nothing (machine.Int k) (λ q e. cc) typed
-      by_word (machine.Enumerated k) is typed goes = nothing (machine.Enumerated k) (λ q e. cc) typed
-      by_word machine.Null is typed goes = nothing machine.Null (λ q e. cc) typed
+      by_word (machine.Int k) is typed goes = nothing (machine.Int k) (λ q e. int_cell e) typed
+      by_word (machine.Enumerated k) is typed goes = nothing (machine.Enumerated k) (λ q e. position_cell e) typed
+      by_word machine.Null is typed goes = nothing machine.Null (λ q e. null_cell e) typed
 
   pub further_gets : (x d : ℕ) (path : TypedTree) (facts : List Fact) → Sees x d → Good v facts t.state → is_given s x ≡ false → may x x
       → Allows facts (act.Reborrow x (name_of x path)) → Gets x x d (name_of x path) (effect (act.Reborrow x (name_of x path)) facts)

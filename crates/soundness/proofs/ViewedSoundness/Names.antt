@@ -232,7 +232,7 @@ parts_same s sees frame v m n same parts = record {
 -- ---- names
 
 scalar_no_access : (sh : Shape) (d : ℕ) (c n : Bool) → sh ≡ shape.Access d c n → is_scalar (view_of_shape sh) ≡ true → ⊥
-scalar_no_access sh d c n is plain = (let no : is_scalar (view_of_shape (shape.Access d c n)) ≡ true = ap (λ z. is_scalar (view_of_shape z)) (sym is) ∙ plain in cc)
+scalar_no_access sh d c n is plain = (let no : is_scalar (view_of_shape (shape.Access d c n)) ≡ true = ap (λ z. is_scalar (view_of_shape z)) (sym is) ∙ plain in false≢true no)
 
 module _ (h : Here) (sees : ℕ → Bool) (seeing : Seeing h.typing sees) (settled : IsSettled h.typing.table) (hands : List Waiting) (leaks : List Leak) (m : Memory) (waits : List (List machine.Word))
     (other : Around (home h.typing h.frame)) (facts : List Fact) (v : Views) (kept : Kept h.typing m hands)

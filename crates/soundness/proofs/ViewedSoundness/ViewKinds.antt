@@ -100,7 +100,7 @@ bundle_view s x bundle = either_true (is_anonymous (view_of s x)) (is_view_forma
 pub bundle_access : (s : Typing) (x d : ℕ) (c n : Bool) → is_bundle s x ≡ true → shape_of s.table (object_at s x).of ≡ shape.Access d c n → ⊥
 bundle_access s x d c n bundle is =
     let none = (and_true (is_view_formal s x) (not (is_access (view_of s x))) bundle).1 in
-    let no : not (is_access (view_of_shape (shape.Access d c n))) ≡ true = ap (λ z. not (is_access (view_of_shape z))) (sym is) ∙ none in cc
+    let no : not (is_access (view_of_shape (shape.Access d c n))) ≡ true = ap (λ z. not (is_access (view_of_shape z))) (sym is) ∙ none in false≢true no
 
 pub bundle_named : (s : Typing) (x : ℕ) → is_bundle s x ≡ true → IsNamed s.table (object_at s x).of
 bundle_named s x bundle d c n is = absurd (bundle_access s x d c n bundle is)

@@ -37,6 +37,7 @@ use Rattle.soundness.proofs.ViewedSoundness.Walks.{held_there}
 use Rattle.soundness.proofs.ViewedSoundness.Names.{stands_owners, part_owners}
 use Rattle.soundness.proofs.ViewedSoundness.ViewKinds.{true_false, anonymous_bundle, view_access}
 use Rattle.soundness.proofs.Constructors.{is_cell_word}
+use Rattle.soundness.proofs.Parted.{loc_frames, loc_objects, word_cells}
 
 -- ---- the way of what a name designates
 
@@ -154,7 +155,7 @@ module _ (s : Typing) (sees : ℕ → Bool) (settled : IsSettled s.table) where
               ∙ sym (word_no s.table (content s m hands (OfRoot (OfVariable g y))) p leaf)
           by_object false e =
               ap (λ z. word_in s.table (record { of = (object_at s y).of; slots = z; owns = (content s m hands (OfRoot (OfVariable g y))).owns }) p)
-              (put_other s f x g y (λ same. (let is : y ≡ x = objects_same f x g y same in let no = eq-eqb y x is in cc)) (fresh ws) m.variables)
+              (put_other s f x g y (λ same. false≢true (sym e ∙ eq-eqb y x (objects_same f x g y same))) (fresh ws) m.variables)
       by_trunk (OfRoot (OfHand h)) p t = refl
       by_trunk (OfCell c) p t = refl
       by_trunk (Inside l i) p t = absurd (not_inside l l i t)
@@ -183,7 +184,7 @@ module _ (s : Typing) (sees : ℕ → Bool) (settled : IsSettled s.table) where
   }
     where
       got : (z : machine.Word) (n : ℕ) → z ≡ machine.Cell n → (way_from z w ≡ Some w) × (number_in z ≡ n)
-      got (machine.Cell k) n e = (refl, cc)
+      got (machine.Cell k) n e = (refl, word_cells e)
       got (machine.Int k) n e = absurd (false≢true (ap is_cell_word e))
       got (machine.Enumerated k) n e = absurd (false≢true (ap is_cell_word e))
       got machine.Null n e = absurd (false≢true (ap is_cell_word e))
@@ -195,11 +196,8 @@ module _ (s : Typing) (sees : ℕ → Bool) (settled : IsSettled s.table) where
           ∙ ap (λ q. (get_or (variable_slots s (home s frame q) q (declared frame x (z ∷ []) m).variables) 0 no_slot).word) (sym same)
           ∙ e
 
-      other_object : (f x g y : ℕ) → OfVariable f x ≡ OfVariable g y → y ≡ x
-      other_object f x g y e = cc
-
       off : (y : ℕ) → (y == x) ≡ false → y ≡ x → ⊥
-      off y e same = (let no = eq-eqb y x same in cc)
+      off y e same = false≢true (sym e ∙ eq-eqb y x same)
 
       -- a formal with parts isn't the object
       part_stays : (y : ℕ) (p : List Step) → is_bundle s y ≡ true → part_word s frame (declared frame x (z ∷ []) m) y p ≡ part_word s frame m y p
@@ -209,7 +207,7 @@ module _ (s : Typing) (sees : ℕ → Bool) (settled : IsSettled s.table) where
           by_same true e = absurd (true_false (is_bundle s x) (ap (is_bundle s) (sym (eqb-true y x e)) ∙ bundle) plain)
           by_same false e =
               ap (λ q. (get_or q (offset_in s.table (object_at s y).of p) no_slot).word)
-              (put_other s frame x (home s frame y) y (λ same. off y e (other_object frame x (home s frame y) y same)) (fresh (z ∷ [])) m.variables)
+              (put_other s frame x (home s frame y) y (λ same. off y e (objects_same frame x (home s frame y) y same)) (fresh (z ∷ [])) m.variables)
 
       by_object : (y n : ℕ) → is_view s y ≡ true → is_bundle s y ≡ false
           → (get_or (variable_slots s (home s frame y) y (declared frame x (z ∷ []) m).variables) 0 no_slot).word ≡ machine.Cell n
@@ -221,7 +219,7 @@ module _ (s : Typing) (sees : ℕ → Bool) (settled : IsSettled s.table) where
       by_object y n is bare e false b =
           let old = holds.held y n is bare
           (sym (ap (λ q. (get_or q 0 no_slot).word)
-          (put_other s frame x (home s frame y) y (λ same. off y b (other_object frame x (home s frame y) y same)) (fresh (z ∷ [])) m.variables)) ∙ e) in
+          (put_other s frame x (home s frame y) y (λ same. off y b (objects_same frame x (home s frame y) y same)) (fresh (z ∷ [])) m.variables)) ∙ e) in
           (old.0, becomes.ways y (off y b) ∙ old.1, becomes.cells y (off y b) ∙ old.2)
 
       only : (y : ℕ) (way : Way) → t.way y ≡ Some way → (b : Bool) → (y == x) ≡ b → is_view s y ≡ true
@@ -259,7 +257,7 @@ module _ (s : Typing) (sees : ℕ → Bool) (settled : IsSettled s.table) where
   view_kept m hands f x z view one typed kept = record {
     variables = λ g y. elim (same_loc (OfRoot (OfVariable g y)) (OfRoot (OfVariable f x))) [
       | inl e ↦ (
-          let a : g ≡ f = cc in let b : y ≡ x = cc in
+          let a : g ≡ f = loc_frames e in let b : y ≡ x = loc_objects e in
           ap (λ q. length (variable_slots s q y (declared f x (z ∷ []) m).variables)) a
           ∙ ap (λ q. length (variable_slots s f q (declared f x (z ∷ []) m).variables)) b
           ∙ ap (λ (q : List Slot). length q) (put_same s f x (fresh (z ∷ [])) m.variables)
@@ -275,7 +273,7 @@ module _ (s : Typing) (sees : ℕ → Bool) (settled : IsSettled s.table) where
         | inr ne ↦ subst (λ q. Points s m (record { of = (object_at s y).of; slots = q; owns = (content s m hands (OfRoot (OfVariable g y))).owns }))
             (sym (put_other s f x g y (λ e. ne (ap OfRoot (sym e))) (fresh (z ∷ [])) m.variables)) (kept.points (OfRoot (OfVariable g y)))
         | inl e ↦ (
-            let a : g ≡ f = cc in let b : y ≡ x = cc in
+            let a : g ≡ f = loc_frames e in let b : y ≡ x = loc_objects e in
             subst (λ q. Points s m (content s (declared f x (z ∷ []) m) hands (OfRoot (OfVariable q y)))) (sym a)
             (subst (λ q. Points s m (content s (declared f x (z ∷ []) m) hands (OfRoot (OfVariable f q)))) (sym b)
             (subst (λ q. Points s m (record { of = (object_at s x).of; slots = q; owns = (content s m hands (OfRoot (OfVariable f x))).owns }))

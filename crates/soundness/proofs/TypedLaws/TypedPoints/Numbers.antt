@@ -3,7 +3,7 @@
 use Rattle.std.proofs.Common.{◌≡◌, refl, sym, ap, ◌∙◌, subst, inl, inr, ℕ, suc, ◌+◌, Bool, true, false, not, cond, List, [], ◌∷◌, ◌++◌, map, get_or, nat_eq, arith, Some, None}
 use Rattle.std.specs.Prelude.{flat_map}
 use Rattle.std.specs.List.{AllByRecursion, position_or_len}
-use Rattle.std.proofs.lemmas.Bool.{eqb-true, eq-eqb}
+use Rattle.std.proofs.lemmas.Bool.{eqb-true, eq-eqb, false≢true}
 use Rattle.machine.specs.spark_base.Lists.{Has}
 use Rattle.machine.specs.place_names.declared.act.Mode.{Mode}
 use Rattle.machine.specs.place_names.declared.act.Mode.TheVariants as mode
@@ -49,7 +49,7 @@ at_number {B} R d (n ∷ ns) (v ∷ vs) fallback h has = by (nat_eq d n) refl (�
     by false is on =
         let next : suc (position_or_len (nat_eq d) ns) ≡ 1 + position_or_len (nat_eq d) ns = omega arith in
         subst (λ i. R d (get_or (v ∷ vs) i fallback)) next (on (elim has [
-          | inl same ↦ absurd (let f : nat_eq d d ≡ false = subst (λ x. nat_eq d x ≡ false) same is in let g = eq-eqb d d refl in cc)
+          | inl same ↦ absurd (let f : nat_eq d d ≡ false = subst (λ x. nat_eq d x ≡ false) same is in false≢true (sym f ∙ eq-eqb d d refl))
           | inr more ↦ more
         ]))
 
