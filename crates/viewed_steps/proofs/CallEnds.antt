@@ -76,6 +76,7 @@ use Rattle.soundness.proofs.OwnedLoans.Safe.{Unlent}
 use Rattle.viewed_steps.specs.Seeing.{sees_in}
 use Rattle.viewed_steps.proofs.Constructors.{is_call_instruction, is_held_word}
 use Rattle.viewed_steps.proofs.InnerFrame.{InnerFrame}
+use Rattle.viewed_steps.proofs.Parted.{done_same}
 
 smaller : (f b low : ℕ) → f < suc b → (f ≡ low → ⊥) → low ≡ b → f < low
 smaller f b low less ne is =
@@ -721,7 +722,7 @@ module _ (table : Table) (typed : TypedProgram) (effects : Effects) (input : Lis
     backs_with Q R (Traps e now) never more = never
 
     done_memory : (m k : Memory) (now begun : Now) → ◌≡◌ {A = Evaluated Memory} (Done m now) (Done k begun) → m ≡ k
-    done_memory m k now begun e = cc
+    done_memory m k now begun e = done_same e
 
     pub ends_call : inner.p.instr ≡ Finish → Along (turn main_turn Finish)
     ends_call is = by_rest inner.rest inner.more_frames refl refl inner.stages inner.running.2 viewed_own inner.awaiting.1

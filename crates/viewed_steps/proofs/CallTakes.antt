@@ -75,6 +75,7 @@ use Rattle.viewed_steps.proofs.Calling as calling
 use Rattle.viewed_steps.specs.Seeing.{sees_in}
 use Rattle.viewed_steps.proofs.Sees.{sees_seeing}
 use Rattle.viewed_steps.proofs.InnerFrame.{InnerFrame}
+use Rattle.soundness.proofs.Parted.{hand_variable}
 
 module _ (table : Table) (typed : TypedProgram) (effects : Effects) (input : List ℕ) (ready : IsReady table typed effects) where
   abbrev sees : ℕ → Bool
@@ -483,4 +484,4 @@ module _ (table : Table) (typed : TypedProgram) (effects : Effects) (input : Lis
         }
           where
             hand_base : {k f x : ℕ} → ways.OfRoot (ways.OfHand k) ≡ ways.OfRoot (ways.OfVariable f x) → ⊥
-            hand_base is = cc
+            hand_base is = hand_variable is

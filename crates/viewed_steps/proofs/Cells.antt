@@ -49,7 +49,7 @@ use Rattle.viewed_steps.proofs.Opened.{actual_open, IsLess, open_before}
 use Rattle.viewed_steps.proofs.Called.{copies_add}
 use Rattle.viewed_steps.proofs.Entered.{IsFrom, IsOfPlace}
 use Rattle.viewed_steps.proofs.Passed.{apart_pair, flat_has, later_none, after_less}
-use Rattle.viewed_steps.proofs.Constructors.{is_of_cell_loc}
+use Rattle.viewed_steps.proofs.Constructors.{is_of_cell_loc, is_out_mode}
 
 -- ---- names that don't overlap
 
@@ -168,7 +168,7 @@ module _ (s : Typing) (sees : ℕ → Bool) (own_law : OwnsByShape s.table) (dep
       by_written None is = inl has
       by_written (Some w) is = elim (bool_cases (is_moved_under w.name f)) [
         | inr stays ↦ inl (kept_fact (act.Actual w.name mode.Out owning access) known f has stays)
-        | inl under ↦ (let found = by_fact w f refl under in inr ((λ e. cc), w, is, found.0, found.1, found.2))
+        | inl under ↦ (let found = by_fact w f refl under in inr ((λ e. false≢true (ap is_out_mode (sym e))), w, is, found.0, found.1, found.2))
       ]
 
   abbrev ways_of : List ℕ → List Passing

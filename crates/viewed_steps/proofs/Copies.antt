@@ -2,7 +2,7 @@
 -- type.
 use Rattle.std.proofs.Common.{◌≡◌, refl, sym, ap, ◌∙◌, subst, inl, inr, ℕ, zero, suc, ◌+◌, ◌<◌, Bool, true, false, ◌||◌, List, [], ◌∷◌, ◌++◌, length, get_or, arith, append-nil, append_assoc, if◌then◌else◌}
 use Rattle.std.proofs.lemmas.List.{length-append, length-map}
-use Rattle.std.proofs.lemmas.Bool.{true≢false}
+use Rattle.std.proofs.lemmas.Bool.{true≢false, false≢true}
 use Rattle.machine.specs.place_names.declared.act.Act.TheVariants as act
 use Rattle.machine.specs.place_names.declared.act.Placed.{Placed}
 use Rattle.machine.specs.place_names.declared.fact.Fact.{Fact}
@@ -48,6 +48,7 @@ use Rattle.machine.specs.Words as machine
 use Rattle.machine.specs.typed_tree.Trees as typed
 use Rattle.soundness.proofs.Passing.{AreReads}
 use Rattle.viewed_steps.proofs.Reading.{no_reads, one_read, both_reads, reads_in, index_reads, unowned, unowned_read}
+use Rattle.soundness.proofs.Parted.{null_cell}
 
 -- ---- parts of what owns nothing own nothing
 
@@ -67,18 +68,18 @@ none_owns owns (c ∷ cs) (suc i) other lt none = none_owns owns cs i other (ome
 pub part_owns : (owns : ℕ → Bool) (sh : Shape) (i : ℕ) → i < field_count sh → is_record sh || is_array sh ≡ true → owns_of owns sh ≡ false → owns (part_type sh i) ≡ false
 part_owns owns (shape.Fields cs) i lt made none = none_owns owns cs i no_component lt none
 part_owns owns (shape.Elements low high element) i lt made none = none
-part_owns owns (shape.Whole a b) i lt made none = cc
-part_owns owns (shape.Listed l a b) i lt made none = cc
-part_owns owns (shape.Access d c n) i lt made none = cc
-part_owns owns (shape.Same of) i lt made none = cc
+part_owns owns (shape.Whole a b) i lt made none = absurd (false≢true made)
+part_owns owns (shape.Listed l a b) i lt made none = absurd (false≢true made)
+part_owns owns (shape.Access d c n) i lt made none = absurd (false≢true made)
+part_owns owns (shape.Same of) i lt made none = absurd (false≢true made)
 
 pub element_owns : (owns : ℕ → Bool) (sh : Shape) → is_array sh ≡ true → owns_of owns sh ≡ false → owns (element_of sh) ≡ false
 element_owns owns (shape.Elements low high element) array none = none
-element_owns owns (shape.Fields cs) array none = cc
-element_owns owns (shape.Whole a b) array none = cc
-element_owns owns (shape.Listed l a b) array none = cc
-element_owns owns (shape.Access d c n) array none = cc
-element_owns owns (shape.Same of) array none = cc
+element_owns owns (shape.Fields cs) array none = absurd (false≢true array)
+element_owns owns (shape.Whole a b) array none = absurd (false≢true array)
+element_owns owns (shape.Listed l a b) array none = absurd (false≢true array)
+element_owns owns (shape.Access d c n) array none = absurd (false≢true array)
+element_owns owns (shape.Same of) array none = absurd (false≢true array)
 
 -- no value of a named access type owns nothing
 pub no_cell : (s : Typing) → OwnsByShape s.table → (want d : ℕ) (constant by_name : Bool) → shape_of s.table want ≡ shape.Access d constant by_name → IsNamed s.table want
@@ -261,7 +262,7 @@ module _ (h : Here) (sees : ℕ → Bool) (seeing : Seeing h.typing sees) (settl
         (
           sym one,
           top_points s settled m (record { of = want; words = machine.Null ∷ [] }) hands
-              ((keeps s settled own_law).plain m (record { of = want; words = machine.Null ∷ [] }) hands (λ k has. elim has [ inl e ↦ cc | inr never ↦ never ]) kept).points,
+              ((keeps s settled own_law).plain m (record { of = want; words = machine.Null ∷ [] }) hands (λ k has. elim has [ inl e ↦ null_cell e | inr never ↦ never ]) kept).points,
         ),
       ),
       refl,

@@ -57,6 +57,8 @@ use Rattle.soundness.proofs.ViewedSoundness.Moments.{hands_spared}
 use Rattle.soundness.proofs.ViewedSoundness.Evaluated.{gives_plainly, Given, blank_ready, checked_given, evaluated_on}
 use Rattle.soundness.proofs.ViewedSoundness.Outcomes.{named_plain, not_views, IsGood, Leads_on, raises, start_is, unturned, goes_to}
 use Rattle.viewed_steps.proofs.Views.{AreAccess, same_named}
+use Rattle.soundness.proofs.Parted.{cell_root, hand_variable}
+use Rattle.viewed_steps.proofs.Parted.{loc_roots}
 
 -- ---- a variable that had nothing gets a value
 
@@ -108,17 +110,17 @@ word_off s m a b leaks f x ws l off = by_trunk l (steps_in l) off
 -- the same for a way from another variable
 far_there : (s : View) (f x g y : ℕ) (w : Way) (l : Loc) → base_of w ≡ OfRoot (OfVariable g y) → (OfVariable f x ≡ OfVariable g y → ⊥) → Reaches s w l → IsOff f x l
 far_there s f x g y (Object (OfVariable h z)) l base off r =
-    let same : OfVariable h z ≡ OfVariable g y = cc in
+    let same : OfVariable h z ≡ OfVariable g y = loc_roots base in
     subst (IsOff f x) (sym r) (λ e. off (e ∙ same))
-far_there s f x g y (Object (OfHand h)) l base off r = cc
-far_there s f x g y (Lost c) l base off r = cc
+far_there s f x g y (Object (OfHand h)) l base off r = absurd (hand_variable base)
+far_there s f x g y (Lost c) l base off r = absurd (cell_root base)
 far_there s f x g y (Into w i) l base off (m, r, e) = subst (IsOff f x) (sym e) (far_there s f x g y w m base off r)
 far_there s f x g y (All w) l base off (m, c, r, held, e) = subst (IsOff f x) (sym e) tt
 
 far_off : (s t : View) (f x g y : ℕ) → ((l : Loc) → IsOff f x l → t.word l ≡ s.word l) → (w : Way) (l : Loc) → base_of w ≡ OfRoot (OfVariable g y)
     → (OfVariable f x ≡ OfVariable g y → ⊥) → Reaches s w l → Reaches t w l
 far_off s t f x g y same (Object r) l base off reach = reach
-far_off s t f x g y same (Lost c) l base off reach = cc
+far_off s t f x g y same (Lost c) l base off reach = absurd (cell_root base)
 far_off s t f x g y same (Into w i) l base off (m, reach, e) = (m, far_off s t f x g y same w m base off reach, e)
 far_off s t f x g y same (All w) l base off (m, c, reach, held, e) =
     (m, c, far_off s t f x g y same w m base off reach, same m (far_there s f x g y w m base off reach) ∙ held, e)

@@ -67,7 +67,7 @@ same_object f x g y e = cc
 
 -- in scope but for the last one
 rest_within : (x y : ℕ) (scope : List ℕ) → is_last y scope ≡ true → is_within x scope ≡ true → (x ≡ y → ⊥) → is_within x (drop 1 scope) ≡ true
-rest_within x y [] last within off = cc
+rest_within x y [] last within off = absurd (false≢true last)
 rest_within x y (z ∷ rest) last within off =
     drop_none rest (by_first (x == z) refl (is_within x rest) within)
   where
@@ -312,7 +312,7 @@ module _ (t : Turn) (sees : ℕ → Bool) (seeing : Seeing (typing t) sees) (set
           ∙ ap (λ z. get_or (variable_slots s (home s depth z) z (undeclared depth y m).variables) i no_slot) (sym same) in
           absurd (none_default s.table (object_at s y).of n (cell_has (machine.default s.table (object_at s y).of) i n (ap (λ (z : Slot). z.word) was ∙ e)))
       by_object false b =
-          let off : x ≡ y → ⊥ = λ same. (let no = eq-eqb x y same in cc) in
+          let off : x ≡ y → ⊥ = λ same. false≢true (sym b ∙ eq-eqb x y same) in
           (off, sym (ap (λ z. (get_or z i no_slot).word) (removed_other s depth y (home s depth x) x (λ same. off (same_object depth y (home s depth x) x same)) m.variables)) ∙ e)
 
   pub holds_left : HoldsAt s sees depth views_left (undeclared depth y m) q

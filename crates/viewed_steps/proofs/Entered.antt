@@ -38,7 +38,7 @@ use Rattle.viewed_steps.proofs.Outs.{Out, HasStill, places_apart, ways_apart}
 use Rattle.viewed_steps.proofs.Beside.{put_beside}
 use Rattle.viewed_steps.proofs.Declared.{declared_low}
 use Rattle.viewed_steps.proofs.Views.{AreAccess, AreFar, base_named, view_cases, AreOnly}
-use Rattle.viewed_steps.proofs.Constructors.{is_of_variable_base}
+use Rattle.viewed_steps.proofs.Constructors.{is_of_variable_base, is_value_passed}
 
 named_part : (home : ℕ → ℕ) (w : Way) (p : List Step) → Named home w → Named home (along w p)
 named_part home w [] n = n
@@ -182,13 +182,13 @@ plain_from s m cells x a (inl (plain, at)) y k same is many =
 plain_from s m cells x a (inr (inl (shown, z, at, typed))) y k same is many = no_value (z ∷ []) (subst (λ b. IsOfPlace b k) at is)
   where
     no_value : (ws : List machine.Word) → IsOfPlace (Value ws) k → ⊥
-    no_value ws (inl e) = cc
-    no_value ws (inr e) = cc
+    no_value ws (inl e) = false≢true (ap is_value_passed (sym e))
+    no_value ws (inr e) = false≢true (ap is_value_passed (sym e))
 plain_from s m cells x a (inr (inr (kind, ws, at, fits))) y k same is many = no_value ws (subst (λ b. IsOfPlace b k) at is)
   where
     no_value : (ws : List machine.Word) → IsOfPlace (Value ws) k → ⊥
-    no_value ws (inl e) = cc
-    no_value ws (inr e) = cc
+    no_value ws (inl e) = false≢true (ap is_value_passed (sym e))
+    no_value ws (inr e) = false≢true (ap is_value_passed (sym e))
 
 -- It is passed for a formal.
 abbrev pub IsFrom : List ℕ → List Passed → ℕ → Place → Type 0

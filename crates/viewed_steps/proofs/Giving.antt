@@ -78,6 +78,8 @@ use Rattle.viewed_steps.specs.Seeing.{sees_in}
 use Rattle.viewed_steps.proofs.Sees.{sees_seeing}
 use Rattle.viewed_steps.proofs.Constructors.{is_assign_instruction, is_call_instruction, is_cell_word, is_declare_instruction, is_end_scope_instruction}
 use Rattle.viewed_steps.proofs.InnerFrame.{InnerFrame}
+use Rattle.soundness.proofs.Parted.{null_cell}
+use Rattle.viewed_steps.proofs.Parted.{more_first, more_rest, more_none, name_call, null_call, hold_same}
 
 first_one : (v w : Waiting) (waits others : List Waiting) → v ∷ waits ≡ w ∷ others → v ≡ w
 first_one v w waits others same = cc
@@ -412,7 +414,7 @@ module _ (table : Table) (typed : TypedProgram) (effects : Effects) (input : Lis
           (nothing_left plain.0, (machine.Null, refl, no_cell))))
         where
           no_cell : IsGivenBack machine.Null
-          no_cell = record { typed_there = λ d c n k shape_there same. cc; goes = λ k same. cc }
+          no_cell = record { typed_there = λ d c n k shape_there same. absurd (null_cell same); goes = λ k same. absurd (null_cell same) }
 
           takes_nothing : taken (Hold (More e last)) ≡ 0
           takes_nothing = (λ j. taken (Hold (More (null j) (alone_there j))))
@@ -438,7 +440,7 @@ module _ (table : Table) (typed : TypedProgram) (effects : Effects) (input : Lis
             let never : Hold (More e last) ≡ Assign (Name k x steps_of w) (CallIn alone_taken.3 alone_taken.4 alone_taken.5) = sym is ∙ other_instr in absurd (false≢true (ap is_assign_instruction never)))
         | inr (inr same_instr) ↦ (
             let both : Hold (More e last) ≡ Hold (More (CallIn alone_taken.3 alone_taken.4 alone_taken.5) NoMore) = sym is ∙ same_instr in
-            let same_call : e ≡ CallIn alone_taken.3 alone_taken.4 alone_taken.5 = cc in
+            let same_call : e ≡ CallIn alone_taken.3 alone_taken.4 alone_taken.5 = more_first (hold_same both) in
             by_held (sym same_call ∙ call) (sym same_call))
       ]
         where
@@ -483,7 +485,7 @@ module _ (table : Table) (typed : TypedProgram) (effects : Effects) (input : Lis
             let never : Hold (More e last) ≡ Assign (Name k x steps_of w) (CallIn alone_taken.3 alone_taken.4 alone_taken.5) = sym is ∙ other_instr in absurd (false≢true (ap is_assign_instruction never)))
         | inr (inr same_instr) ↦ (
             let both : Hold (More e last) ≡ Hold (More (CallIn alone_taken.3 alone_taken.4 alone_taken.5) NoMore) = sym is ∙ same_instr in
-            let same_call : e ≡ CallIn alone_taken.3 alone_taken.4 alone_taken.5 = cc in
+            let same_call : e ≡ CallIn alone_taken.3 alone_taken.4 alone_taken.5 = more_first (hold_same both) in
             no_call alone_taken.3 alone_taken.4 alone_taken.5 same_call)
       ]
 
@@ -506,12 +508,12 @@ module _ (table : Table) (typed : TypedProgram) (effects : Effects) (input : Lis
         | inl null ↦ elim (innermost.taken_there table typed effects input ready inner no_call_then) [
           | inl plain ↦ by_null plain null
           | inr (inr within) ↦ absurd (not_together within)
-          | inr (inl alone_taken) ↦ absurd (not_alone alone_taken (λ a b actuals call. (let never : TypedNull ≡ CallIn a b actuals = sym null ∙ call in cc)))
+          | inr (inl alone_taken) ↦ absurd (not_alone alone_taken (λ a b actuals call. null_call (sym null ∙ call)))
         ]
         | inr (q, y, steps_there, u, inl name) ↦ elim (innermost.taken_there table typed effects input ready inner no_call_then) [
           | inl plain ↦ by_name plain q y steps_there u name
           | inr (inr within) ↦ absurd (not_together within)
-          | inr (inl alone_taken) ↦ absurd (not_alone alone_taken (λ a b actuals call. (let never : Name q y steps_there u ≡ CallIn a b actuals = sym name ∙ call in cc)))
+          | inr (inl alone_taken) ↦ absurd (not_alone alone_taken (λ a b actuals call. name_call (sym name ∙ call)))
         ]
         | inr (q, y, steps_there, u, inr (r, n, more, call, gives)) ↦ elim (innermost.taken_there table typed effects input ready inner no_call_then) [
           | inl plain ↦ absurd (not_plain r n (More (Name q y steps_there u) more) call gives plain.1)
@@ -530,11 +532,11 @@ module _ (table : Table) (typed : TypedProgram) (effects : Effects) (input : Lis
         no_call_holding n actuals r same = (let never : Hold (More e last) ≡ Call n actuals r = sym is ∙ same in absurd (false≢true (ap is_call_instruction never)))
 
         by_result : (r : Option ℕ) → inner.named.sub.result ≡ r → Returns s r (More e last) → Along (steps.hold main_turn (More e last))
-        by_result None none never = cc
+        by_result None none never = absurd (more_none never)
         by_result (Some of) result (value_there, same, source) =
-            let value_is : value_there ≡ e = cc in
+            let value_is : value_there ≡ e = sym (more_first same) in
             let source_here : Source s of e = subst (Source s of) value_is source in
-            let last_is : last ≡ NoMore = cc in
+            let last_is : last ≡ NoMore = more_rest same in
             elim (bool_cases (is_anonymous (full s.table of))) [
               | inl view ↦ view_returned e last is of result source_here last_is view
               | inr plain_result ↦ results.value_step table typed effects input ready inner e last is of result source_here last_is plain_result (elim (innermost.taken_there table typed effects input ready inner no_call_holding) [

@@ -15,6 +15,7 @@ use Rattle.soundness.proofs.Keeping.{cell_has}
 use Rattle.soundness.proofs.Around.{same_or_not}
 use Rattle.soundness.proofs.Endings.{SameNumbers, numbers_owned, numbers_covered, reaches_on, frame_other, frame_same, frame_ends, left_blank}
 use Rattle.viewed_steps.proofs.Constructors.{is_gone_word}
+use Rattle.soundness.proofs.Parted.{cell_root}
 
 -- where owners see the same, cells have the same words
 pub cells_same : (s : Typing) (m n : Memory) (hands : List Waiting) (leaks : List Leak) → IsSame (seen s m hands leaks) (seen s n hands leaks)
@@ -82,7 +83,7 @@ module _ (s : Typing) (m : Memory) (f : ℕ) (hands : List Waiting) (leaks : Lis
   -- a way from the frame stays in its variable, which is whole
   stays_there : (w : Way) (l : Loc) (x : ℕ) → base_of w ≡ OfRoot (OfVariable f x) → Reaches now w l → trunk l ≡ OfRoot (OfVariable f x)
   stays_there (Object r) l x base e = ap trunk e ∙ base
-  stays_there (Lost n) l x base e = cc
+  stays_there (Lost n) l x base e = absurd (cell_root base)
   stays_there (Into w i) l x base (k, r, e) = ap trunk e ∙ stays_there w k x base r
   stays_there (All w) l x base (k, c, r, held, e) =
       absurd (left_blank s m f hands leaks nothing x (steps_in k) c

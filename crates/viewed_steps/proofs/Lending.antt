@@ -39,6 +39,7 @@ use Rattle.soundness.proofs.ViewedSoundness.Evaluated.{keep_both}
 use Rattle.viewed_steps.specs.Ready.{AreDifferent}
 use Rattle.viewed_steps.specs.Sound.{IsCopiedBack}
 use Rattle.viewed_steps.proofs.Passed.{flat_has, later_none}
+use Rattle.viewed_steps.proofs.Constructors.{is_out_mode}
 
 -- An actual stands for a formal.
 abbrev pub IsActualOf : List ℕ → TypedTree → ℕ → TypedTree → Type 0
@@ -162,7 +163,7 @@ module _ (s : Typing) (sees : ℕ → Bool) where
 
   covered : (k n u : List Sel) → begins k n ≡ true → agree_along n u ≡ true → agree_along k u ≡ true
   covered [] n u b e = refl
-  covered (s ∷ k) [] u b e = cc
+  covered (s ∷ k) [] u b e = absurd (false≢true b)
   covered (s ∷ k) (t ∷ n) [] b e = refl
   covered (s ∷ k) (t ∷ n) (r ∷ u) b e =
       let one = both_parts (is_equal s t) (begins k n) b in
@@ -180,7 +181,7 @@ module _ (s : Typing) (sees : ℕ → Bool) where
 
   under_over : (k u : PlaceName) (f : Fact) → is_moved_under k f ≡ true → moved_or_lent u f ≡ true → overlaps k u ≡ true
   under_over k u (Moved n) c over = covers_over k n u c over
-  under_over k u (Lent l h n) c over = cc
+  under_over k u (Lent l h n) c over = absurd (false≢true c)
 
   pub borrowed_lent : (m : PlaceName) (f : Fact) → moved_or_borrowed m f ≡ true → moved_or_lent m f ≡ true
   borrowed_lent m (Moved n) over = over
@@ -232,7 +233,7 @@ module _ (s : Typing) (sees : ℕ → Bool) where
           (under_over k.name m.name f c over)
         where
           out_in : mode.Out ≡ mode.In → ⊥
-          out_in e = cc
+          out_in e = false≢true (ap is_out_mode (sym e))
 
       by_passing : (how : Mode) → (object_at s x).mode ≡ how → (owning : Bool) → Has (alias.passed formals rest) (record { formal = y; actual = m })
           → Has (after (acts (actual_act (passing s true x) e)) known) f
@@ -245,12 +246,12 @@ module _ (s : Typing) (sees : ℕ → Bool) where
           by_mode mode.In is true access = still_there (written e) mode.In true access known f has (λ k w out. absurd (in_out out))
             where
               in_out : mode.In ≡ mode.Out → ⊥
-              in_out e = cc
+              in_out e = false≢true (ap is_out_mode e)
           by_mode mode.Out is owning access = still_there (written e) mode.Out owning access known f has (λ k w out c. covers_not k later w is c)
           by_mode mode.InOut is owning access = still_there (written e) mode.InOut owning access known f has (λ k w out. absurd (in_out out))
             where
               in_out : mode.InOut ≡ mode.Out → ⊥
-              in_out e = cc
+              in_out e = false≢true (ap is_out_mode e)
   act_comes (x ∷ formals) _ known differ allowed none y m of access lent kept f has over = absurd of
 
   -- nothing that overlaps what is lent is moved or lent before the call

@@ -1,4 +1,5 @@
 pub mod Constructors
+pub mod Parted
 pub mod Sees
 pub mod Views
 pub mod Faded

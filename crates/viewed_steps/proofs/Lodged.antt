@@ -19,6 +19,7 @@ use Rattle.soundness.proofs.Contents.{owner_held, Shown, shown}
 use Rattle.soundness.proofs.Steps.{same_below, no_leaf, plain_shape, plain_end}
 use Rattle.viewed_steps.specs.Taken.{Lodge, last_steps, trunk_type, IsLodged}
 use Rattle.viewed_steps.proofs.Constructors.{is_of_cell_loc}
+use Rattle.soundness.proofs.Parted.{loc_cells, empty_held, cell_root, cell_inside, hand_variable}
 
 both_parts : (a b : Bool) → a && b ≡ true → (a ≡ true) × (b ≡ true)
 both_parts true b e = (refl, e)
@@ -61,7 +62,7 @@ module _ (s : Typing) (settled : IsSettled s.table) (m : Memory) (hands : List W
       → (get_or c.slots (offset_in s.table c.of p) no_slot).word ≡ machine.Cell k → IsCell s m d k)
       → word_in s.table c p ≡ Held n → IsCell s m (designated s.table (type_in s.table c.of p)) n
   cell_there c p n points held =
-      let found : Shown s.table c p (Held n) = shown s.table c p (Held n) (λ e. cc) held in
+      let found : Shown s.table c p (Held n) = shown s.table c p (Held n) empty_held held in
       let both = both_parts (has_part s.table c.of p) (owns_one (shape_of s.table (type_in s.table c.of p))) found.leaf in
       let access = access_of (shape_of s.table (type_in s.table c.of p)) both.1 in
       let slot : Slot = get_or c.slots (offset_in s.table c.of p) no_slot in
@@ -76,8 +77,8 @@ module _ (s : Typing) (settled : IsSettled s.table) (m : Memory) (hands : List W
     where
       no_root : (n : ℕ) → OfRoot (OfVariable g y) ≡ OfCell n → ⊥
       no_root n e = absurd (false≢true (ap is_of_cell_loc e))
-  typed_way (Object (OfHand h)) f x base l is = cc
-  typed_way (Lost n) f x base l is = cc
+  typed_way (Object (OfHand h)) f x base l is = absurd (hand_variable base)
+  typed_way (Lost n) f x base l is = absurd (cell_root base)
   typed_way (Into w i) f x base l (k, reach, is) =
       let there = typed_way w f x base k reach in (
         subst (λ z. Matches s.table (trunk_type s w) (content s m hands (trunk z)).of) (sym is) there.0,
@@ -91,7 +92,7 @@ module _ (s : Typing) (settled : IsSettled s.table) (m : Memory) (hands : List W
       let there = typed_way w f x base k reach in
       let found = cell_there (content s m hands (trunk k)) (steps_in k) n (kept.points (trunk k) (steps_in k)) held in
       let leaf : is_leaf s.table (content s m hands (trunk k)).of (steps_in k) ≡ true =
-      (shown s.table (content s m hands (trunk k)) (steps_in k) (Held n) (λ e. cc) held).leaf in
+      (shown s.table (content s m hands (trunk k)) (steps_in k) (Held n) empty_held held).leaf in
       let same : shape_of s.table (type_in s.table (trunk_type s w) (last_steps w)) ≡ shape_of s.table (type_in s.table (content s m hands (trunk k)).of (steps_in k)) =
       ap (λ z. shape_of s.table (type_in s.table (trunk_type s w) z)) (sym there.1) ∙ by_type (trunk_type s w) (content s m hands (trunk k)).of (steps_in k) there.0 leaf in (
         subst (λ z. Matches s.table (trunk_type s (All w)) (content s m hands (trunk z)).of) (sym is)
@@ -123,14 +124,14 @@ module _ (s : Typing) (settled : IsSettled s.table) (m : Memory) (hands : List W
 
   pub cell_live : (w : Way) (f x n : ℕ) → base_of w ≡ OfRoot (OfVariable f x) → Owned (seen s m hands leaks) → Reaches (seen s m hands leaks) w (OfCell n)
       → (cell m n).freed ≡ false
-  cell_live (Object (OfVariable g y)) f x n base owned is = cc
-  cell_live (Object (OfHand h)) f x n base owned is = cc
-  cell_live (Lost c) f x n base owned reach = cc
-  cell_live (Into w i) f x n base owned (k, reach, is) = cc
+  cell_live (Object (OfVariable g y)) f x n base owned is = absurd (cell_root is)
+  cell_live (Object (OfHand h)) f x n base owned is = absurd (hand_variable base)
+  cell_live (Lost c) f x n base owned reach = absurd (cell_root base)
+  cell_live (Into w i) f x n base owned (k, reach, is) = absurd (cell_inside is)
   cell_live (All w) f x n base owned (k, c, reach, held, is) = owned.live k n (held ∙ ap Held (same_cell is))
     where
       same_cell : OfCell n ≡ OfCell c → c ≡ n
-      same_cell e = cc
+      same_cell e = sym (loc_cells e)
 
   -- ---- places
 

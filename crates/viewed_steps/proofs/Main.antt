@@ -36,6 +36,7 @@ use Rattle.viewed_steps.proofs.Standing.{bundle_sees, in_formals}
 use Rattle.viewed_steps.proofs.Views.{parts_none}
 use Rattle.soundness.specs.ViewedSoundness.Holds.{PartsHold}
 use Rattle.viewed_steps.specs.Seeing.{sees_in}
+use Rattle.soundness.proofs.Parted.{some_same}
 
 -- ---- the start
 
@@ -255,4 +256,4 @@ module _ (table : Table) (typed : TypedProgram) (effects : Effects) (input : Lis
 
       no_trap_at : (o : Outcome) → LeadsOn table typed effects o → (e : Ending) → ending_of o ≡ Some e → IsTrap e → ⊥
       no_trap_at (Goes t) leads e is trap = false≢true (ap is_some is)
-      no_trap_at (Ends f t) leads e is trap = (let same : f ≡ e = cc in leads.0 (subst IsTrap (sym same) trap))
+      no_trap_at (Ends f t) leads e is trap = leads.0 (subst IsTrap (sym (some_same is)) trap)

@@ -50,7 +50,8 @@ use Rattle.viewed_steps.proofs.Exclusive.{IsLentAs, IsFrom, IsSeenFrom}
 use Rattle.viewed_steps.proofs.Lending.{IsActualOf, actual_named}
 use Rattle.viewed_steps.proofs.Views.{AreLowFormals, AreAccess, not_elsewhere, given_type, given_formal, bundle_given}
 use Rattle.viewed_steps.proofs.Waited.{plain_unheld}
-use Rattle.viewed_steps.proofs.Constructors.{is_access_shape, is_cell_word}
+use Rattle.viewed_steps.proofs.Constructors.{is_access_shape, is_cell_word, is_value_passed}
+use Rattle.soundness.proofs.Parted.{int_cell, position_cell, null_cell}
 
 abbrev pub no_views : Views
 no_views = record { way = λ x. None; loan = λ x. Lost 0; up = λ x. Lost 0; cell = λ x. 0; part_way = λ x p. None; part_cell = λ x p. 0 }
@@ -365,11 +366,11 @@ module _ (h : Here) (sees : ℕ → Bool) (seeing : Seeing h.typing sees) (settl
   by_word x (machine.Cell n) e formals rest passed formal single sight differ more =
       opens_one x n e formals rest passed formal single (sight n refl).0 (sight n refl).1 differ more
   by_word x (machine.Int k) e formals rest passed formal single sight differ more =
-      passes_by x e (Value (machine.Int k ∷ [])) formals rest passed (λ own bare ws n is at. no_cell (machine.Int k) ws n is at (λ q no. cc)) (not_bundle x single) more
+      passes_by x e (Value (machine.Int k ∷ [])) formals rest passed (λ own bare ws n is at. no_cell (machine.Int k) ws n is at (λ q no. int_cell no)) (not_bundle x single) more
   by_word x (machine.Enumerated k) e formals rest passed formal single sight differ more =
-      passes_by x e (Value (machine.Enumerated k ∷ [])) formals rest passed (λ own bare ws n is at. no_cell (machine.Enumerated k) ws n is at (λ q no. cc)) (not_bundle x single) more
+      passes_by x e (Value (machine.Enumerated k ∷ [])) formals rest passed (λ own bare ws n is at. no_cell (machine.Enumerated k) ws n is at (λ q no. position_cell no)) (not_bundle x single) more
   by_word x machine.Null e formals rest passed formal single sight differ more =
-      passes_by x e (Value (machine.Null ∷ [])) formals rest passed (λ own bare ws n is at. no_cell machine.Null ws n is at (λ q no. cc)) (not_bundle x single) more
+      passes_by x e (Value (machine.Null ∷ [])) formals rest passed (λ own bare ws n is at. no_cell machine.Null ws n is at (λ q no. null_cell no)) (not_bundle x single) more
 
   by_value : (x : ℕ) (ws : List machine.Word) (e : TypedTree) (formals : List ℕ) (rest : TypedTree) (passed : List Passed)
       → (is_given s x ≡ true → is_bundle s x ≡ false → (z : machine.Word) × (ws ≡ z ∷ []) × ((n : ℕ) → z ≡ machine.Cell n → SeesBy e n))
@@ -394,8 +395,8 @@ module _ (h : Here) (sees : ℕ → Bool) (seeing : Seeing h.typing sees) (settl
   one_opened x mode.In e (Value ws) formals rest passed given differ more =
       by_value x ws e formals rest passed
       (λ formal single. (let found = given.1 (given_type s x formal) single in (found.0, found.1, λ n is. ((e, found.3 n is), refl)))) given.2 differ more
-  one_opened x mode.Out e (To k) formals rest passed given differ more = passes_by x e (To k) formals rest passed (λ own bare ws n is at. cc) (λ bundle ws is. cc) more
-  one_opened x mode.InOut e (From k) formals rest passed given differ more = passes_by x e (From k) formals rest passed (λ own bare ws n is at. cc) (λ bundle ws is. cc) more
+  one_opened x mode.Out e (To k) formals rest passed given differ more = passes_by x e (To k) formals rest passed (λ own bare ws n is at. absurd (false≢true (ap is_value_passed is))) (λ bundle ws is. false≢true (ap is_value_passed is)) more
+  one_opened x mode.InOut e (From k) formals rest passed given differ more = passes_by x e (From k) formals rest passed (λ own bare ws n is at. absurd (false≢true (ap is_value_passed is))) (λ bundle ws is. false≢true (ap is_value_passed is)) more
   one_opened x how e a formals rest passed given differ more = absurd given
 
   pub all_opened : (formals : List ℕ) (actuals : TypedTree) (passed : List Passed) → AreDifferent formals → Given formals actuals passed → Opens formals actuals passed

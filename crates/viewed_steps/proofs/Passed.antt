@@ -75,6 +75,7 @@ use Rattle.viewed_steps.proofs.Aside.{names_off}
 use Rattle.soundness.specs.ViewedSoundness.Holds.{is_bundle, is_view, Seeing}
 use Rattle.machine.specs.place_names.declared.rule.Loan.TheVariants.{Borrowed}
 use Rattle.viewed_steps.proofs.Constructors.{is_of_cell_loc}
+use Rattle.soundness.proofs.Parted.{loc_cells}
 
 -- ---- what the rules on facts say
 
@@ -393,7 +394,7 @@ module _ (s : Typing) (sees : ℕ → Bool) (seeing : Seeing s sees) (own_law : 
   }
     where
       same_cell : {a b : ℕ} → ways.OfCell a ≡ ways.OfCell b → a ≡ b
-      same_cell e = cc
+      same_cell e = loc_cells e
 
       no_cell : {n f z : ℕ} → ways.OfRoot (ways.OfVariable f z) ≡ ways.OfCell n → ⊥
       no_cell e = absurd (false≢true (ap is_of_cell_loc e))

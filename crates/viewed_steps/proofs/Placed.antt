@@ -34,6 +34,7 @@ use Rattle.viewed_steps.specs.Sound.{Lasts, Lies, ArePartsLow, ArePlaced, ArePla
 use Rattle.viewed_steps.proofs.Views.{base_named, same_named, same_lies, anonymous_view, view_ends}
 use Rattle.soundness.proofs.OwnedWays.Dropped.{named_base}
 use Rattle.soundness.proofs.OwnedLoans.Ended.{number_base}
+use Rattle.soundness.proofs.Parted.{empty_held}
 
 either : (a b : Bool) → a || b ≡ true → (a ≡ true) ⊎ (b ≡ true)
 either true b e = inl refl
@@ -100,7 +101,7 @@ module _ (s : Typing) where
       by_end false end =
           let none = word_no s.table (content s m [] (OfRoot (ways.OfVariable f x))) p
           (ownerless s.table own_law (object_at s x).of (not_or (is_owning s.table (object_at s x).of) (is_anonymous (view_of s x)) end) p) in
-          let no_number = sym none ∙ held in cc
+          absurd (empty_held (sym none ∙ held))
 
   -- so variables that own stay in scope, and are no temporaries
   pub scope_on : OwnsByShape s.table → (m : Memory) (depth : ℕ) (a b : List ℕ) → InScope s m depth (lasting_of s a) → Leads s a b → InScope s m depth (lasting_of s b)

@@ -64,6 +64,7 @@ use Rattle.soundness.proofs.ViewedSoundness.Outcomes.{named_plain}
 use Rattle.soundness.specs.ViewedSoundness.Taken.{types_taken, TakesFit}
 use Rattle.viewed_steps.proofs.Supplied.{Supplies}
 use Rattle.viewed_steps.proofs.Constructors.{is_of_root_loc}
+use Rattle.viewed_steps.proofs.Parted.{loc_roots}
 
 -- ---- names that go through access values
 
@@ -349,7 +350,7 @@ module _ (h : Here) (sees : ℕ → Bool) (seeing : Seeing h.typing sees) (settl
   -- a way to a part of a variable
   root_part : (w : Way) (l : Loc) (r : Root) → Reaches (seen h.typing m hands leaks) w l → trunk l ≡ OfRoot r → w ≡ along (Object r) (steps_in l)
   root_part (Object b) l r reach is =
-      (let same : OfRoot b ≡ OfRoot r = ap trunk (sym reach) ∙ is in let one : b ≡ r = cc in ap Object one ∙ ap (along (Object r)) (ap steps_in (sym reach)))
+      (let same : OfRoot b ≡ OfRoot r = ap trunk (sym reach) ∙ is in let one : b ≡ r = loc_roots same in ap Object one ∙ ap (along (Object r)) (ap steps_in (sym reach)))
   root_part (Lost n) l r reach is = (let never : OfCell n ≡ OfRoot r = ap trunk (sym reach.1) ∙ is in absurd (false≢true (ap is_of_root_loc never)))
   root_part (Into w i) l r (k, reach, at) is =
       ap (λ z. Into z i) (root_part w k r reach (ap trunk (sym at) ∙ is)) ∙ ap (along (Object r)) (ap steps_in (sym at))

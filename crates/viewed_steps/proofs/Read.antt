@@ -57,6 +57,7 @@ use Rattle.soundness.proofs.ViewedSoundness.Evaluated.{Ready, blank_ready, live_
 use Rattle.soundness.proofs.ViewedSoundness.Stored.{holds_stored, no_view_place}
 use Rattle.soundness.proofs.ViewedSoundness.Outcomes.{IsGood, Leads_on, raises, unturned, goes_to, live}
 use Rattle.viewed_steps.proofs.Views.{AreAccess, scalar_no_view, formal_view}
+use Rattle.soundness.proofs.Parted.{int_cell}
 
 -- a scalar type isn't anonymous
 pub scalar_named : (table : Table) (u : ℕ) → is_scalar (full table u) ≡ true → IsNamed table u
@@ -117,7 +118,7 @@ module _ (t : Turn) (sees : ℕ → Bool) (seeing : Seeing (typing t) sees) (set
 
     ready_in : ReadyIn
     ready_in = blank_ready (here t) sees seeing settled t.state.leaks [] other alone (keeps s settled own_law) index_law own_law v parts_named
-        m hands facts u (machine.Int i ∷ []) (λ k has. elim has [ inl e ↦ cc | inr e ↦ e ])
+        m hands facts u (machine.Int i ∷ []) (λ k has. elim has [ inl e ↦ int_cell e | inr e ↦ e ])
         (record { viewed = good.viewed; kept = good.kept; holds = good.holds })
 
     alive_trunk : (w : Way) (l : Loc) → IsOwners s w → Reaches (seen s m (value_in ∷ hands) t.state.leaks) w l → (content s m (value_in ∷ hands) (trunk l)).owns ≡ true

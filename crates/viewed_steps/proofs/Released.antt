@@ -65,6 +65,7 @@ use Rattle.soundness.proofs.ViewedSoundness.Stored.{holds_stored, no_view_place}
 use Rattle.soundness.proofs.ViewedSoundness.Outcomes.{IsGood, Leads_on, raises, unturned, goes_to, goes_on, live}
 use Rattle.viewed_steps.proofs.Views.{AreAccess}
 use Rattle.viewed_steps.proofs.Constructors.{is_cell_word, is_empty_word}
+use Rattle.soundness.proofs.Parted.{not_empty}
 
 -- ---- facts at a release
 
@@ -232,7 +233,7 @@ module _ (t : Turn) (sees : ℕ → Bool) (seeing : Seeing (typing t) sees) (set
 
     empties : (k : Place) (l : Loc) (w : Way) → Spot s m hands k l → k.of ≡ u → IsOwners s w → Reaches seen_here w l → (excused w → ⊥)
         → ((n : ℕ) → (slot_here k).word ≡ machine.Cell n → ⊥) → (p : List ways.Step) → seen_here.word (part l p) ≡ Empty
-    empties k l w spot of rooted reaches clean no_cell (i ∷ p) = inside k l (i ∷ p) spot of (λ e. cc)
+    empties k l w spot of rooted reaches clean no_cell (i ∷ p) = inside k l (i ∷ p) spot of (λ e. not_empty e)
     empties k l w spot of rooted reaches clean no_cell [] =
         let slot : Slot = slot_here k in
         let word : seen_here.word l ≡ owner_word slot =

@@ -83,6 +83,7 @@ use Rattle.viewed_steps.specs.Seeing.{sees_in}
 use Rattle.viewed_steps.proofs.Sees.{sees_seeing}
 use Rattle.viewed_steps.proofs.Constructors.{is_assign_instruction, is_call_instruction, is_declare_instruction, is_end_scope_instruction, is_finish_instruction}
 use Rattle.viewed_steps.proofs.InnerFrame.{InnerFrame}
+use Rattle.viewed_steps.proofs.Parted.{more_first, hold_same, list_first}
 
 none_some : (n : ℕ) → None ≡ Some n → ⊥
 none_some n e = absurd (false≢true (ap is_some e))
@@ -554,7 +555,7 @@ module _ (table : Table) (typed : TypedProgram) (effects : Effects) (input : Lis
         named_value ws w others same seen_there = true_false (is_anonymous (full s.table of)) (ap (λ (z : Waiting). is_anonymous (full s.table z.of)) first ∙ seen_there) plain_result
           where
             first : value_of ws ≡ w
-            first = cc
+            first = list_first same
 
         then_returned : (y : Evaluated (List machine.Word))
             → Given (steps.here main_turn) sees seeing ready.accepted.settled inner.state.leaks [] other alone (keeps s ready.accepted.settled ready.owns) index_law ready.owns inner.views
@@ -594,7 +595,7 @@ module _ (table : Table) (typed : TypedProgram) (effects : Effects) (input : Lis
           | inr (inl (q, x, steps, u, other_instr, place, scalar)) ↦ (let never : Hold (More e last) ≡ Assign (Name q x steps u) within.0 = sym is ∙ other_instr in absurd (false≢true (ap is_assign_instruction never)))
           | inr (inr (same_instr, plain_then)) ↦ (
               let both : Hold (More e last) ≡ Hold (More within.0 NoMore) = sym is ∙ same_instr in
-              let same_tree : e ≡ within.0 = cc in
+              let same_tree : e ≡ within.0 = more_first (hold_same both) in
               let fit : AreOfTypes s (types_taken s within.0) (take (taken inner.p.instr) inner.top.frame.waits) = holding.values_fit table typed effects input ready inner going_then within (Hold (More within.0 NoMore)) same_instr in
               subst (λ z. Source s of z → AllowsAll facts_now (acts (acts_in s z)) → AllKeep (is_fixed s sees) (acts (acts_in s z))
               → Given (steps.here main_turn) sees seeing ready.accepted.settled inner.state.leaks [] other alone (keeps s ready.accepted.settled ready.owns)
@@ -613,7 +614,7 @@ module _ (table : Table) (typed : TypedProgram) (effects : Effects) (input : Lis
           | inr (inr same_instr) ↦ (
               let call : TypedTree = CallIn alone_taken.3 alone_taken.4 alone_taken.5 in
               let both : Hold (More e last) ≡ Hold (More call NoMore) = sym is ∙ same_instr in
-              let is_call : e ≡ call = cc in
+              let is_call : e ≡ call = more_first (hold_same both) in
               subst (λ z. Source s of z → Given (steps.here main_turn) sees seeing ready.accepted.settled inner.state.leaks [] other alone (keeps s ready.accepted.settled ready.owns)
               index_law ready.owns inner.views ready.class.parts_named of (waiting_in easy.state) (after (acts (acts_in s z)) facts_now) (steps.taken_by main_turn of z (start main_turn)))
               (sym is_call)

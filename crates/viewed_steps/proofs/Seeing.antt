@@ -44,6 +44,7 @@ use Rattle.soundness.proofs.Passing.{plain_type}
 use Rattle.soundness.proofs.ViewedSoundness.Lends.{matches_on}
 use Rattle.viewed_steps.proofs.Entered.{IsTyped, IsFit}
 use Rattle.viewed_steps.proofs.Views.{AreLowFormals, bundle_owns}
+use Rattle.soundness.proofs.Parted.{null_cell}
 
 -- Nothing of a name was moved or is borrowed, unless it is looked at through an observer or a formal.
 abbrev pub IsClear : Typing → (ℕ → Bool) → List Fact → TypedTree → Type 0
@@ -245,7 +246,7 @@ module _ (h : Here) (sees : ℕ → Bool) (seeing : Seeing h.typing sees) (settl
       → AllowsAll facts (acts (index_acts h.typing e)) → IsClear h.typing sees facts e → Quiet (at on) (IsSeenAs x e) (viewed h e (at before))
   unfolding evaluate waits_in
   seen_given before on x typed.Null access seen_there takes allowed clears =
-      (at_same takes, (machine.Null, refl, (λ d c n k is e. cc), λ n e. cc))
+      (at_same takes, (machine.Null, refl, (λ d c n k is e. absurd (null_cell e)), λ n e. absurd (null_cell e)))
   seen_given before on x (Name p y path u) access (leads, fits) takes allowed clear =
       let of = source_access x u access fits in
       from_source on p x y of.0 u path of.4 clear (evaluate h AsView (Name p y path u) (at before))

@@ -25,6 +25,7 @@ use Rattle.viewed_steps.specs.Taken.{Lodge}
 use Rattle.viewed_steps.proofs.Alike.{IsLaidIn, with_one}
 use Rattle.viewed_steps.proofs.Entered.{IsKindOfCopy, IsPlainPassed, IsPlainOne, IsTyped, IsFit, HasWords}
 use Rattle.viewed_steps.proofs.Views.{AreAccess, view_access, given_cases, unowned_view}
+use Rattle.soundness.proofs.Parted.{loc_frames, loc_objects}
 
 -- A memory has the cells of another one, with their types.
 pub record HasCells (m n : Memory) : Type 0 where
@@ -89,7 +90,7 @@ module _ (s : Typing) (sees : ℕ → Bool) (settled : IsSettled s.table) (own_l
     by_variable rest g y p = elim (same_loc (OfRoot (OfVariable f x)) (OfRoot (OfVariable g y))) [
       | inr ne ↦ ap (λ q. word_in s.table (record { of = (object_at s y).of; slots = q; owns = not (is_view_formal s y) }) p) (others g y (λ e. ne (ap OfRoot e)))
       | inl e ↦ (
-          let same : x ≡ y = cc in
+          let same : x ≡ y = loc_objects e in
           elim (given_cases s x shown.0) [
             | inl formal ↦ (
                 let dead : not (is_view_formal s y) ≡ false = ap not (ap (is_view_formal s) (sym same) ∙ formal) in
@@ -128,7 +129,7 @@ module _ (s : Typing) (sees : ℕ → Bool) (settled : IsSettled s.table) (own_l
       views = λ g y view. elim (same_loc (OfRoot (OfVariable f x)) (OfRoot (OfVariable g y))) [
         | inr ne ↦ inl (λ i. ap (λ q. (get_or q i no_slot).word) (others g y (λ e. ne (ap OfRoot e))))
         | inl e ↦ (
-            let here : f ≡ g = cc in let same : x ≡ y = cc in
+            let here : f ≡ g = loc_frames e in let same : x ≡ y = loc_objects e in
             inr (
               sym here,
               same,
@@ -152,7 +153,7 @@ module _ (s : Typing) (sees : ℕ → Bool) (settled : IsSettled s.table) (own_l
     copied_word rest g y p = elim (same_loc (OfRoot (OfVariable f x)) (OfRoot (OfVariable g y))) [
       | inr ne ↦ ap (λ q. word_in s.table (record { of = (object_at s y).of; slots = q; owns = not (is_view_formal s y) }) p) (copied_others g y (λ e. ne (ap OfRoot e)))
       | inl e ↦ (
-          let same : x ≡ y = cc in
+          let same : x ≡ y = loc_objects e in
           elim kind [
             | inl plain ↦ (
                 let none : is_leaf s.table (object_at s y).of p ≡ false =
@@ -179,7 +180,7 @@ module _ (s : Typing) (sees : ℕ → Bool) (settled : IsSettled s.table) (own_l
       views = λ g y view. elim (same_loc (OfRoot (OfVariable f x)) (OfRoot (OfVariable g y))) [
         | inr ne ↦ inl (λ i. ap (λ q. (get_or q i no_slot).word) (copied_others g y (λ e. ne (ap OfRoot e))))
         | inl e ↦ (
-            let here : f ≡ g = cc in let same : x ≡ y = cc in
+            let here : f ≡ g = loc_frames e in let same : x ≡ y = loc_objects e in
             inr (
               sym here,
               same,

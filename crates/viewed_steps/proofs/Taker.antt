@@ -7,7 +7,7 @@ use Rattle.machine.specs.place_names.declared.act.Act.{Act}
 use Rattle.machine.specs.place_names.declared.act.Act.TheVariants as act
 use Rattle.machine.specs.place_names.Names.{Name as PlaceName}
 use Rattle.std.proofs.Common.{◌≡◌, refl, sym, ap, ◌∙◌, subst, ◌⊎◌, inl, inr, ℕ, Bool, true, false, List, ◌++◌, ◌||◌, ◌&&◌, if◌then◌else◌}
-use Rattle.std.proofs.lemmas.Bool.{true≢false}
+use Rattle.std.proofs.lemmas.Bool.{true≢false, false≢true}
 use Rattle.machine.specs.spark_base.declared.position.Pos.{Pos}
 use Rattle.machine.specs.typed_tree.Trees.{NoMore, More, Name}
 use Rattle.machine.specs.flow_paths.Instructions.{Instruction}
@@ -57,8 +57,8 @@ module _ (s : Typing) (n : ℕ) (c : TraversalCall) where
         by_kind true observes kind allowed = borrow_clears facts x u (by_name (act.Borrow x) allowed.0)
         by_kind false true kind allowed = observe_clears facts x (is_observer s (traversed_name c).root) u
             (by_name (λ m. act.Observe x m (is_observer s (traversed_name c).root)) allowed.0)
-        by_kind false false (inl never) allowed = cc
-        by_kind false false (inr (none, never)) allowed = cc
+        by_kind false false (inl never) allowed = absurd (false≢true never)
+        by_kind false false (inr (none, never)) allowed = absurd (false≢true never)
 
     by_assigned : (q : Pos) (x t : ℕ) → Sees x → (is_observer s x ≡ false → c.root ≡ x)
         → AllowsAll facts (acts (if is_borrower s x then index_acts s (call_in n c) ++ reborrow (target_pos p (written (Name q x NoMore t))) x (source (call_in n c))
@@ -75,8 +75,8 @@ module _ (s : Typing) (n : ℕ) (c : TraversalCall) where
         by_kind true true kind own only allowed = (let never : true ≡ false = only refl in absurd (true≢false never))
         by_kind false true kind own only allowed = observe_clears facts x (is_observer s (traversed_name c).root) u
             (by_name (λ m. act.Observe x m (is_observer s (traversed_name c).root)) allowed.0)
-        by_kind false false (inl never) own only allowed = cc
-        by_kind false false (inr (none, never)) own only allowed = cc
+        by_kind false false (inl never) own only allowed = absurd (false≢true never)
+        by_kind false false (inr (none, never)) own only allowed = absurd (false≢true never)
 
     -- by the acts of its point
     pub taker_clears : (i : Instruction) → IsViewTaker s n c f.result i → AllowsAll facts (acts (acts_of f p i)) → Cleared facts u

@@ -1,7 +1,7 @@
 -- The point that takes the result of a traversal function has an act on what the first actual names: it reads that, or
 -- borrows it.
 use Rattle.std.proofs.Common.{◌≡◌, refl, sym, ap, ◌∙◌, subst, ◌⊎◌, inl, inr, ℕ, Bool, true, false, List, ◌++◌, Option, ◌==◌, eq-eqb, if◌then◌else◌}
-use Rattle.std.proofs.lemmas.Bool.{true≢false}
+use Rattle.std.proofs.lemmas.Bool.{true≢false, false≢true}
 use Rattle.machine.specs.spark_base.Lists.{Has}
 use Rattle.machine.specs.spark_base.declared.position.Pos.{Pos}
 use Rattle.machine.specs.place_names.declared.act.Act.{Act}
@@ -43,8 +43,8 @@ module _ (s : Typing) (n : ℕ) (c : TraversalCall) (result : Option ℕ) (roots
           else (if observes then source_acts s (call_in n c) (observe s x) else acts_in s (More (call_in n c) NoMore)))
       by_kind true observes kind = (placed c.name_pos (act.Borrow x (traversed_name c)), inl refl, inl itself)
       by_kind false true kind = (placed c.name_pos (observe s x (traversed_name c)), inl refl, inr itself)
-      by_kind false false (inl never) = cc
-      by_kind false false (inr (none, never)) = cc
+      by_kind false false (inl never) = absurd (false≢true never)
+      by_kind false false (inr (none, never)) = absurd (false≢true never)
 
   -- a borrower isn't assigned what goes through a package object
   not_itself : (x : ℕ) → is_borrower s x ≡ true → c.root ≡ x → ⊥
@@ -62,8 +62,8 @@ module _ (s : Typing) (n : ℕ) (c : TraversalCall) (result : Option ℕ) (roots
       by_kind true false kind own only none = absurd (none refl (own refl))
       by_kind true true kind own only none = absurd (let never : true ≡ false = only refl in true≢false never)
       by_kind false true kind own only none = (placed c.name_pos (observe s x (traversed_name c)), inl refl, inr itself)
-      by_kind false false (inl never) own only none = cc
-      by_kind false false (inr (none_there, never)) own only none = cc
+      by_kind false false (inl never) own only none = absurd (false≢true never)
+      by_kind false false (inr (none_there, never)) own only none = absurd (false≢true never)
 
   pub taker_names : (i : Instruction) → IsViewTaker s n c result i → Acts IsNaming (acts_of frame p i)
   taker_names i (inl (x, is, view)) = subst (λ z. Acts IsNaming (acts_of frame p z)) (sym is) (by_declared x view)

@@ -85,6 +85,7 @@ use Rattle.viewed_steps.specs.Seeing.{sees_in}
 use Rattle.viewed_steps.proofs.Sees.{sees_seeing}
 use Rattle.viewed_steps.proofs.Constructors.{is_assign_instruction, is_declare_instruction, is_hold_instruction}
 use Rattle.viewed_steps.proofs.InnerFrame.{InnerFrame}
+use Rattle.viewed_steps.proofs.Parted.{more_first, call_subs, call_actuals, name_roots, call_name, hold_same, declare_same, assign_same}
 
 some_is : (a b : ℕ) → Some a ≡ Some b → a ≡ b
 some_is a b e = cc
@@ -217,7 +218,7 @@ module _ (table : Table) (typed : TypedProgram) (effects : Effects) (input : Lis
       module _ (of n : ℕ) (q r : Pos) (steps_there : TypedTree) (u : ℕ) (others : TypedTree) (y : ℕ)
           (call_is : held_call ≡ CallIn r n (More (Name q y steps_there u) others)) (gives : GivesView s n of) where
         same_sub : alone_taken.4 ≡ n
-        same_sub = cc
+        same_sub = call_subs call_is
 
         value_of_view : value_there.of ≡ gives.result
         value_of_view =
@@ -238,22 +239,22 @@ module _ (table : Table) (typed : TypedProgram) (effects : Effects) (input : Lis
 
         -- the value is that of the call
         takes_one : (e c : TypedTree) → IsTakenBy inner.p.instr e → IsTakenBy inner.p.instr c → e ≡ c
-        takes_one e c (inl (a, is)) (inl (b, same)) = (let both : Declare a (More e NoMore) ≡ Declare b (More c NoMore) = sym is ∙ same in cc)
+        takes_one e c (inl (a, is)) (inl (b, same)) = more_first (declare_same (sym is ∙ same))
         takes_one e c (inl (a, is)) (inr (inl (k, b, w, o, same, none))) = (let both : Declare a (More e NoMore) ≡ Assign (Name k b w o) c = sym is ∙ same in absurd (false≢true (ap is_assign_instruction both)))
         takes_one e c (inl (a, is)) (inr (inr same)) = (let both : Declare a (More e NoMore) ≡ Hold (More c NoMore) = sym is ∙ same in absurd (false≢true (ap is_hold_instruction both)))
         takes_one e c (inr (inl (k, b, w, o, is, none))) (inl (a, same)) = (let both : Assign (Name k b w o) e ≡ Declare a (More c NoMore) = sym is ∙ same in absurd (false≢true (ap is_declare_instruction both)))
         takes_one e c (inr (inl (k, b, w, o, is, none))) (inr (inl (l, d, v, z, same, also))) =
-            (let both : Assign (Name k b w o) e ≡ Assign (Name l d v z) c = sym is ∙ same in cc)
+            assign_same (sym is ∙ same)
         takes_one e c (inr (inl (k, b, w, o, is, none))) (inr (inr same)) = (let both : Assign (Name k b w o) e ≡ Hold (More c NoMore) = sym is ∙ same in absurd (false≢true (ap is_hold_instruction both)))
         takes_one e c (inr (inr is)) (inl (a, same)) = (let both : Hold (More e NoMore) ≡ Declare a (More c NoMore) = sym is ∙ same in absurd (false≢true (ap is_declare_instruction both)))
         takes_one e c (inr (inr is)) (inr (inl (k, b, w, o, same, none))) = (let both : Hold (More e NoMore) ≡ Assign (Name k b w o) c = sym is ∙ same in absurd (false≢true (ap is_assign_instruction both)))
-        takes_one e c (inr (inr is)) (inr (inr same)) = (let both : Hold (More e NoMore) ≡ Hold (More c NoMore) = sym is ∙ same in cc)
+        takes_one e c (inr (inr is)) (inr (inr same)) = more_first (hold_same (sym is ∙ same))
 
         pub call_same : call_in given_there.sub call_there ≡ held_call
         call_same = takes_one (call_in given_there.sub call_there) held_call (given_there.traverses).taken alone_taken.8
 
         pub root_same : call_there.root ≡ y
-        root_same = (let e : call_in given_there.sub call_there ≡ CallIn r n (More (Name q y steps_there u) others) = call_same ∙ call_is in cc)
+        root_same = name_roots (more_first (call_actuals (call_same ∙ call_is)))
 
         -- it is in hand no more
         abbrev others_in_hand : List Waiting
@@ -336,10 +337,10 @@ module _ (table : Table) (typed : TypedProgram) (effects : Effects) (input : Lis
         declared_tree = More held_call NoMore
 
         no_name : (r : Pos) (b : ℕ) (w : TypedTree) (o : ℕ) → ◌≡◌ {A = TypedTree} held_call (Name r b w o) → ⊥
-        no_name r b w o e = cc
+        no_name r b w o e = call_name e
 
         same_first : (a b : TypedTree) → ◌≡◌ {A = TypedTree} (More a NoMore) (More b NoMore) → a ≡ b
-        same_first a b e = cc
+        same_first a b e = more_first e
 
         pub declares_view : LeadsFrom (Declare y declared_tree) (turn main_turn (Declare y declared_tree))
         declares_view = by_source (elim found.6 [
@@ -403,7 +404,7 @@ module _ (table : Table) (typed : TypedProgram) (effects : Effects) (input : Lis
         ])
           where
             no_name : (r : Pos) (b : ℕ) (w : TypedTree) (o : ℕ) → ◌≡◌ {A = TypedTree} held_call (Name r b w o) → ⊥
-            no_name r b w o e = cc
+            no_name r b w o e = call_name e
 
             found : IsNewSource program inner.p.scope y held_call
             found = orderly.assigned k y (object_at s y).of held_call is view

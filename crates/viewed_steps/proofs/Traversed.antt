@@ -31,6 +31,7 @@ use Rattle.viewed_steps.specs.Traversals.{IsSourceName, IsSourceIn}
 use Rattle.viewed_steps.specs.Sound.{ViewStage, IsGivenIn, NoneGiven, IsGivenBelow, AreGivenIn}
 use Rattle.viewed_steps.specs.Ready.{AreNamedIn}
 use Rattle.viewed_steps.proofs.Sources.{view_scalar, observer_only}
+use Rattle.viewed_steps.proofs.Parted.{list_first}
 
 -- ---- temporaries
 
@@ -43,7 +44,7 @@ module _ (s : Typing) where
   none_of_named (v ∷ waits) (x ∷ xs) ((fits, long), all) named w others is view = by_kind fits
     where
       same : v ≡ w
-      same = cc
+      same = list_first is
 
       there : is_anonymous (full s.table v.of) ≡ true
       there = ap (λ (z : Waiting). is_anonymous (full s.table z.of)) same ∙ view

@@ -25,6 +25,7 @@ use Rattle.soundness.proofs.Steps.{content_slots}
 use Rattle.soundness.proofs.Steps.{put_at, put_off, put_count, put_freed, alike, matches_words, taken_slots, room}
 use Rattle.viewed_steps.proofs.Emptied.{IsEmptied}
 use Rattle.viewed_steps.proofs.Constructors.{is_gone_word}
+use Rattle.soundness.proofs.Parted.{empty_held, empty_gone}
 
 module _ (s : Typing) (settled : IsSettled s.table) (m : Memory) (hands : List Waiting) (leaks : List Leak) (k : Place) (l : Loc)
     (kept : Kept s m hands) (spot : Spot s m hands k l) (owns : (content s m hands (trunk l)).owns ≡ true) where
@@ -115,7 +116,7 @@ module _ (s : Typing) (settled : IsSettled s.table) (m : Memory) (hands : List W
 
   goes : (p : List Step) (n : ℕ) → word_in s.table (b (trunk l)) (p ++ steps_in l) ≡ Held n → ⊥
   goes p n e =
-      let is_shown = shown s.table (b (trunk l)) (p ++ steps_in l) (Held n) (λ z. cc) e in
+      let is_shown = shown s.table (b (trunk l)) (p ++ steps_in l) (Held n) empty_held e in
       let leaf : is_leaf s.table (a (trunk l)).of (p ++ steps_in l) ≡ true = ap (λ t. is_leaf s.table t (p ++ steps_in l)) (sym here.of) ∙ is_shown.leaf in
       let gone = gone_word _ _ (marked p leaf) in
       let at = ap (λ t. owner_word (get_or (b (trunk l)).slots (offset_in s.table t (p ++ steps_in l)) no_slot)) here.of in
@@ -156,7 +157,7 @@ module _ (s : Typing) (settled : IsSettled s.table) (m : Memory) (hands : List W
   -- what was gone there is so still
   pub vacated_gone : (found : List Leak) (p : List Step) → (seen s m hands leaks).word (part l p) ≡ Gone → (seen s (moved_out s k m) hands found).word (part l p) ≡ Gone
   vacated_gone found p gone =
-      let is_shown = shown s.table (a (trunk l)) (p ++ steps_in l) Gone (λ z. cc) (sym (word_part s.table a l p) ∙ gone) in
+      let is_shown = shown s.table (a (trunk l)) (p ++ steps_in l) Gone empty_gone (sym (word_part s.table a l p) ∙ gone) in
       word_part s.table b l p
       ∙ word_yes s.table (b (trunk l)) (p ++ steps_in l) (here.owns ∙ owns) (ap (λ t. is_leaf s.table t (p ++ steps_in l)) here.of ∙ is_shown.leaf)
       ∙ ap (λ t. owner_word (get_or (b (trunk l)).slots (offset_in s.table t (p ++ steps_in l)) no_slot)) here.of

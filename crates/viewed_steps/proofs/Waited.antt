@@ -1,5 +1,5 @@
 -- The values that wait match the temporaries in scope, one by one.
-use Rattle.std.proofs.Common.{◌≡◌, refl, sym, ap, ◌∙◌, subst, ◌⊎◌, inl, inr, ℕ, zero, suc, Bool, true, false, not, ◌&&◌, ◌||◌, ◌==◌, eqb-true, List, [], ◌∷◌, ◌++◌, take, drop, length, Option, Some, None, is_some}
+use Rattle.std.proofs.Common.{◌≡◌, refl, sym, ap, ◌∙◌, subst, ◌⊎◌, inl, inr, ℕ, zero, suc, Bool, true, false, not, ◌&&◌, ◌||◌, ◌==◌, eqb-true, List, [], ◌∷◌, ◌++◌, take, drop, length, Option, Some, None, is_some, true≢false}
 use Rattle.std.specs.List.{AllByRecursion}
 use Rattle.std.proofs.lemmas.Bool.{false≢true}
 use Rattle.machine.specs.type_definitions.Types.{full, is_scalar}
@@ -121,7 +121,7 @@ module _ (s : Typing) where
   ]
 
   pub within_lasting : (x : ℕ) (scope : List ℕ) → is_within x scope ≡ true → is_held s x ≡ false → is_within x (lasting_of s scope) ≡ true
-  within_lasting x [] within isnt = cc
+  within_lasting x [] within isnt = absurd (false≢true within)
   within_lasting x (y ∷ scope) within lasts = elim (any_either (x == y) (is_within x scope) within) [
     | inl same ↦
         ap (is_within x) (lasting_first y scope (ap (is_held s) (sym (eqb-true x y same)) ∙ lasts))
@@ -139,7 +139,7 @@ module _ (s : Typing) where
       ∙ sym (ap (drop 1) (lasting_first y scope (ap (is_held s) (sym (eqb-true x y last)) ∙ lasts)) ∙ drop_none (lasting_of s scope))
 
   pub lasting_last : (x : ℕ) (scope : List ℕ) → is_last x scope ≡ true → is_held s x ≡ false → is_last x (lasting_of s scope) ≡ true
-  lasting_last x [] last lasts = cc
+  lasting_last x [] last lasts = absurd (false≢true last)
   lasting_last x (y ∷ scope) last lasts = ap (is_last x) (lasting_first y scope (ap (is_held s) (sym (eqb-true x y last)) ∙ lasts)) ∙ last
 
   pub lasting_more : (a b : List ℕ) → ((x : ℕ) → is_within x a ≡ true → is_within x b ≡ true) → (x : ℕ)
@@ -197,8 +197,8 @@ pub late_scope : (program : FlowProgram) (n : ℕ) (actuals : TypedTree) (waits 
     → AreValuesBut (flow_typing program) empty waits (temporaries_of (flow_typing program) b)
 late_scope program n actuals waits left values None fills fits None is answers b leads =
     subst (AreFor (flow_typing program) waits) (leads_temporaries (flow_typing program) left b leads) values
-late_scope program n actuals waits left values None fills fits (Some of) is answers b leads = cc
-late_scope program n actuals waits left values (Some t) fills fits None is answers b leads = cc
+late_scope program n actuals waits left values None fills fits (Some of) is answers b leads = absurd (true≢false answers)
+late_scope program n actuals waits left values (Some t) fills fits None is answers b leads = absurd (false≢true answers)
 late_scope program n actuals waits left values (Some t) fills fits (Some of) is answers b leads =
     subst (AreValuesBut (flow_typing program) (Some of) waits)
     (sym (temporary_first (flow_typing program) t left fills) ∙ leads_temporaries (flow_typing program) (t ∷ left) b leads) (fits of is, values)
