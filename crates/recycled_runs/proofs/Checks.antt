@@ -50,6 +50,7 @@ use Rattle.recycled_runs.proofs.Runs.{LeaksLive}
 use Rattle.handled_kinds.specs.Kinds.{HasKinds}
 use Rattle.handled_kinds.specs.Stacks.{stack_kinds, EndsWithPackages, AreBased}
 use Rattle.handled_kinds.proofs.Stacks.{stack_has, taken_has}
+use Rattle.recycled_runs.proofs.Parted.{is_given}
 
 -- ---- instructions
 
@@ -88,8 +89,8 @@ front_stands table made (s ∷ all) (x ∷ xs) (w ∷ ws) zs stand is = by (is_w
   where
     then_more : (g : Got (List ℤ)) → and_then g (λ more. Given (w ∷ more)) ≡ Given zs → (more : List ℤ) × (g ≡ Given more) × (w ∷ more ≡ zs)
     then_more (Given more) e = (more, refl, given_same (w ∷ more) zs e)
-    then_more (Stops x) e = cc
-    then_more Broken e = cc
+    then_more (Stops x) e = absurd (false≢true (ap is_given e))
+    then_more Broken e = absurd (false≢true (ap is_given e))
 
     by : (b : Bool) → (if b then and_then (front (map kind_of all) ws) (λ more. Given (w ∷ more)) else Broken) ≡ Given zs
         → ((more : List ℤ) → front (map kind_of all) ws ≡ Given more → AllStand table made all xs more) → AllStand table made (s ∷ all) (x ∷ xs) zs

@@ -23,24 +23,26 @@ use Rattle.handled_steps.proofs.Tables.{template_numbers}
 use Rattle.handled_steps.proofs.Passing.{all_passed_long}
 use Rattle.handled_kinds.specs.Stacks.{stack_kinds, AreBased, begun_subs, left_subs, led_subs, got_subs, subs_after}
 use Rattle.recycled_runs.proofs.Plain.{IsPlain}
+use Rattle.std.proofs.lemmas.Bool.{false≢true}
+use Rattle.recycled_runs.proofs.Parted.{is_going}
 
 -- ---- steps that go on
 
 module _ (t : points.Turn) where
   halts : (x : Stop) (m : Flat) (next : State) → halted t x m ≡ Goes next → ⊥
-  halts (Raises e) m next e' = cc
-  halts (Traps e) m next e' = cc
-  halts Memory m next e' = cc
+  halts (Raises e) m next e' = false≢true (ap is_going e')
+  halts (Traps e) m next e' = false≢true (ap is_going e')
+  halts Memory m next e' = false≢true (ap is_going e')
 
   got_goes : {A : Type 0} (m : Flat) (x : Got A) (F : A → Outcome) (next : State) → on_got t m x F ≡ Goes next → (a : A) × (x ≡ Given a) × (F a ≡ Goes next)
   got_goes m (Given a) F next e = (a, refl, e)
   got_goes m (Stops x) F next e = absurd (halts x m next e)
-  got_goes m Broken F next e = cc
+  got_goes m Broken F next e = absurd (false≢true (ap is_going e))
 
   made_goes : {A : Type 0} (x : Made A) (F : A → Flat → Outcome) (next : State) → on_made t x F ≡ Goes next → (a : A) × (m : Flat) × (x ≡ Done a m) × (F a m ≡ Goes next)
   made_goes (Done a m) F next e = (a, m, refl, e)
   made_goes (Halted x m) F next e = absurd (halts x m next e)
-  made_goes Failed F next e = cc
+  made_goes Failed F next e = absurd (false≢true (ap is_going e))
 
 goes_same : (s next : State) → Goes s ≡ Goes next → s ≡ next
 goes_same s next e = cc
@@ -290,21 +292,21 @@ module _ (table : Table) (p : Program) (input : List ℕ) (point : Point) (a : S
           leaked l.0 (without_cell g.0 k (length c.words)) n next g.2
 
   of_cell_fits : (of : ℕ) (at : Pos) (n : Option ℕ) (s : Spot) (k : ℕ) (c : Option Cell) (next : State) → of_cell of at n s k c ≡ Goes next → Goes_on n next
-  of_cell_fits of at n s k None next e = cc
+  of_cell_fits of at n s k None next e = absurd (false≢true (ap is_going e))
   of_cell_fits of at n s k (Some c) next e = by (nat_lt k most_cells) e
     where
       by : (b : Bool) → (if b then freeing of at n s k c else points.Fails) ≡ Goes next → Goes_on n next
       by true e = freeing_fits of at n s k c next e
-      by false e = cc
+      by false e = absurd (false≢true (ap is_going e))
 
   released_fits : (of : ℕ) (at : Pos) (n : Option ℕ) (s : Spot) (k : ℕ) (next : State) → released of at n s k ≡ Goes next → Goes_on n next
   released_fits of at n s zero next e = went m n next e
   released_fits of at n s (suc k) next e = of_cell_fits of at n s k (slice_get m.cells k) next e
 
   released_by_fits : (of : ℕ) (at : Pos) (n : Option ℕ) (s : Spot) (zs : List ℤ) (next : State) → released_by of at n s zs ≡ Goes next → Goes_on n next
-  released_by_fits of at n s [] next e = cc
+  released_by_fits of at n s [] next e = absurd (false≢true (ap is_going e))
   released_by_fits of at n s (w ∷ []) next e = released_fits of at n s (unsigned_abs w) next e
-  released_by_fits of at n s (w ∷ v ∷ ws) next e = cc
+  released_by_fits of at n s (w ∷ v ∷ ws) next e = absurd (false≢true (ap is_going e))
 
   release_fits : (q : Place) (of : ℕ) (at : Pos) (n : Option ℕ) (next : State) → points.done t (Release q of at n) ≡ Goes next → Fits (Release q of at n) next
   release_fits q of at n next e =
@@ -319,7 +321,7 @@ module _ (table : Table) (p : Program) (input : List ℕ) (point : Point) (a : S
   given_based v (k ∷ ks) (g ∷ gs) based = based
 
   hold_fits : (v : Fill) (of : ℕ) (n : Option ℕ) (next : State) → points.done t (Hold v of n) ≡ Goes next → Fits (Hold v of n) next
-  hold_fits v of None next e known = cc
+  hold_fits v of None next e known = absurd (false≢true (ap is_going e))
   hold_fits v of (Some n) next e known =
       let k = made_goes t (filled t.table v m) (λ zs m. Goes (holds zs m)) next e in
       subst (λ (x : State). AreBased table p ns x.frames) (goes_same (holds k.0 k.1) next k.3) (based.0, given_based (record { of = of; words = k.0 }) rest fs based.1)
@@ -361,7 +363,7 @@ module _ (table : Table) (p : Program) (input : List ℕ) (point : Point) (a : S
 
       by : (gs : List Frame) → AreBased table p rest gs → (k : Flat) → left_by gs k ≡ Goes next → AreBased table p rest next.frames
       by [] based k e = subst (λ (x : State). AreBased table p rest x.frames) (goes_same (points.counted (record a { memory = k; frames = [] })) next e) based
-      by (g ∷ []) based k e = cc
+      by (g ∷ []) based k e = absurd (false≢true (ap is_going e))
       by (g ∷ h ∷ gs) based k e = subst (λ (x : State). AreBased table p rest x.frames) (goes_same (points.counted (record a { memory = k; frames = g ∷ h ∷ gs })) next e) based
 
   -- the callee's frame begins where the stack ends as the point begins

@@ -21,18 +21,19 @@ use Rattle.handled_runs.proofs.Marking.{moved_same}
 use Rattle.handled_runs.proofs.Unmarked.{clear_itself}
 use Rattle.handled_steps.specs.Looks.{LooksActual}
 use Rattle.recycled_runs.proofs.More.{Grows}
+use Rattle.recycled_runs.proofs.Parted.{is_made}
 
 -- ---- what is done
 
 pub got_done : {A B : Type 0} (m : Flat) (g : Got A) (f : A → Made B) (b : B) (n : Flat) → reads m g f ≡ Done b n → (a : A) × (g ≡ Given a) × (f a ≡ Done b n)
 got_done m (Given a) f b n e = (a, refl, e)
-got_done m (Stops x) f b n e = cc
-got_done m Broken f b n e = cc
+got_done m (Stops x) f b n e = absurd (false≢true (ap is_made e))
+got_done m Broken f b n e = absurd (false≢true (ap is_made e))
 
 pub made_done : {A B : Type 0} (x : Made A) (f : A → Flat → Made B) (b : B) (n : Flat) → made_then x f ≡ Done b n → (a : A) × (k : Flat) × (x ≡ Done a k) × (f a k ≡ Done b n)
 made_done (Done a k) f b n e = (a, k, refl, e)
-made_done (Halted x k) f b n e = cc
-made_done Failed f b n e = cc
+made_done (Halted x k) f b n e = absurd (false≢true (ap is_made e))
+made_done Failed f b n e = absurd (false≢true (ap is_made e))
 
 after_done : {A : Type 0} (a b : A) (m n : Flat) → Done a m ≡ Done b n → m ≡ n
 after_done a b m n e = cc
@@ -137,9 +138,9 @@ module _ (table : Table) (here taken : List Kind) (x : Flat) where
       by : (a b c : Bool) → are_words ks zs ≡ a
           → (if not a then Failed else (if b then (if c then Done (pos (suc (length m.cells)) ∷ []) (with_cell m (values ks zs)) else Halted Memory m) else Halted (Raises StorageError) m)) ≡ Done us n → Grown n
       by true true true words f = subst Grown (after_done (pos (suc (length m.cells)) ∷ []) us (with_cell m (values ks zs)) n f) (makes m ks zs is words)
-      by true true false words f = cc
-      by true false c words f = cc
-      by false b c words f = cc
+      by true true false words f = absurd (false≢true (ap is_made f))
+      by true false c words f = absurd (false≢true (ap is_made f))
+      by false b c words f = absurd (false≢true (ap is_made f))
 
   -- where words of a place are moved
   place_moves : (m n : Flat) (p : Place) (ks : List Kind) (gone : List ℕ) (zs : List ℤ) → Grown m → LooksThere x.base here taken p ks
@@ -191,7 +192,7 @@ module _ (table : Table) (here taken : List Kind) (x : Flat) where
     where
       by : (b : Bool) (s : Spot) → (if b then Done (FromSpot s of) m else Halted constraint m) ≡ Done p n → Grown n
       by true s f = subst Grown (after_done (FromSpot s of) p m n f) is
-      by false s f = cc
+      by false s f = absurd (false≢true (ap is_made f))
   passed_grows formal (To q of at) m n p is looks e =
       let found = got_done m (spot m q) (λ s. Done (ToSpot s of at) m) p n e in
       subst Grown (after_done (ToSpot found.0 of at) p m n found.2) is

@@ -1,3 +1,5 @@
+-- which constructor a result has
+pub mod Parted
 -- facts stay exact, and null may stand in moved places
 pub mod ViewedFacts
 -- points that make no leak check

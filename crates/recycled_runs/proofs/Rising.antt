@@ -31,6 +31,7 @@ use Rattle.handled_steps.specs.Rises.{top, AreUnder, RisesTo}
 use Rattle.recycled_runs.proofs.Tops.{marks, count, AreTyped, Rises, EndsRisen, have_typed}
 use Rattle.recycled_runs.proofs.TopSteps.{Tops, turn_tops}
 use Rattle.recycled_runs.proofs.TopStores.{stores_at}
+use Rattle.soundness.proofs.Parted.{some_same}
 
 -- ---- counts
 
@@ -43,7 +44,7 @@ each_there n [] (k ∷ ks) same each = absurd (omega (arith, same))
 each_there n (c ∷ cs) [] same each = absurd (omega (arith, same))
 each_there n (c ∷ cs) (k ∷ ks) same each =
     let first = each 0 (omega arith) in
-    let here : k ≡ first.0 = (let one = first.1 in cc) in
+    let here : k ≡ first.0 = some_same first.1 in
     let size : cell_words c ≡ length k.words = first.2 ∙ ap (λ (x : Cell). length x.words) (sym here) in
     let flag : c.freed ≡ k.freed = first.3 ∙ ap (λ (x : Cell). x.freed) (sym here) in
     let rest = each_there n cs ks (omega (arith, same)) (λ i less. each (suc i) (omega (arith, less))) in

@@ -30,6 +30,7 @@ use Rattle.handled_kinds.proofs.After.{after_same}
 use Rattle.recycled_runs.proofs.Plain.{IsPlain, IsAlone, plain}
 use Rattle.recycled_runs.proofs.Machine.{all_subs, AreSame, StaysIn, CallsIn, LeavesTo, alone_stays, call_stays, finish_leaves}
 use Rattle.recycled_runs.proofs.Frames.{plain_based, call_based, finish_based}
+use Rattle.soundness.proofs.Parted.{some_same}
 
 -- ---- what an instruction is
 
@@ -234,7 +235,7 @@ module _ (program : FlowProgram) (p : Program) (lowered : IsLowered program p) (
               subst (λ k. After k x y) (sym calls.2)
               (call_stacked sub calls.0 calls.1 before x y to.0 to.1 to.2 (ap (points.done t) (sym calls.2) ∙ e))
           by (inr (inr same)) =
-              let done : codes.Finish ≡ d = (let one : Some codes.Finish ≡ Some d = subst (λ j. does a fp j ≡ Some d) same is in cc) in
+              let done : codes.Finish ≡ d = some_same (subst (λ j. does a fp j ≡ Some d) same is) in
               subst (λ k. After k x y) done
               (finish_stacked x y (subst (LeavesTo (all_subs fs)) (ap (machine_step.turn u) (sym same) ∙ went) (finish_leaves u)) (ap (points.done t) done ∙ e))
 

@@ -2,7 +2,7 @@
 use Rattle.std.proofs.Common.{◌≡◌, refl, sym, ap, ◌∙◌, subst, inl, inr, ◌⊎◌, ℕ, zero, suc, ◌+◌, ◌<◌, arith, Bool, true, false, not, ◌==◌, List, [], ◌∷◌, map, take, drop, length, get_or, slice_get, Option, Some, None, ℤ, pos, negsuc, if◌then◌else◌}
 use Rattle.std.specs.Prelude.{option_and_then}
 use Rattle.std.proofs.lemmas.List.{length-map}
-use Rattle.std.proofs.lemmas.Bool.{true≢false}
+use Rattle.std.proofs.lemmas.Bool.{true≢false, false≢true}
 use Rattle.machine.specs.spark_base.Lists.{Has}
 use Rattle.machine.specs.spark_base.declared.position.Pos.{Pos}
 use Rattle.machine.specs.place_names.declared.act.Mode.TheVariants as mode
@@ -67,6 +67,7 @@ use Rattle.recycled_runs.proofs.Parts.{part_leaked}
 use Rattle.recycled_runs.proofs.Growing.{Grown, grown_first, base_same, fill_grows, passed_grows, got_done, made_done}
 use Rattle.recycled_runs.proofs.Later.{spot_back, leaked_then}
 use Rattle.recycled_runs.proofs.Found.{Safe, below_length, seen_of, spots, safe}
+use Rattle.recycled_runs.proofs.Parted.{is_given, is_made, given_values, made_values, made_memories}
 
 -- ---- what is asked of names
 
@@ -115,16 +116,16 @@ named_type c k y u path name r is =
 
 front_get : (ks : List Kind) (ws zs : List ℤ) (o : ℕ) → flat.front ks ws ≡ Given zs → o < length ks → get_or ws o (pos 0) ≡ get_or zs o (pos 0)
 front_get [] ws zs o e less = absurd (omega (arith, less))
-front_get (k ∷ ks) [] zs o e less = cc
+front_get (k ∷ ks) [] zs o e less = absurd (false≢true (ap is_given e))
 front_get (k ∷ ks) (w ∷ ws) zs o e less = by (is_word k w) (flat.front ks ws) e (λ more i found less. front_get ks ws more i found less) o less
   where
     by : (b : Bool) (g : Got (List ℤ)) → (if b then and_then g (λ more. Given (w ∷ more)) else Broken) ≡ Given zs
         → ((more : List ℤ) (i : ℕ) → g ≡ Given more → i < length ks → get_or ws i (pos 0) ≡ get_or more i (pos 0)) → (o : ℕ) → o < suc (length ks) → get_or (w ∷ ws) o (pos 0) ≡ get_or zs o (pos 0)
-    by true (Given more) f on zero less = let same : w ∷ more ≡ zs = cc in ap (λ l. get_or l 0 (pos 0)) same
-    by true (Given more) f on (suc o) less = let same : w ∷ more ≡ zs = cc in on more o refl (omega (arith, less)) ∙ ap (λ l. get_or l (suc o) (pos 0)) same
-    by true (Stops x) f on o less = cc
-    by true Broken f on o less = cc
-    by false g f on o less = cc
+    by true (Given more) f on zero less = let same : w ∷ more ≡ zs = given_values f in ap (λ l. get_or l 0 (pos 0)) same
+    by true (Given more) f on (suc o) less = let same : w ∷ more ≡ zs = given_values f in on more o refl (omega (arith, less)) ∙ ap (λ l. get_or l (suc o) (pos 0)) same
+    by true (Stops x) f on o less = absurd (false≢true (ap is_given f))
+    by true Broken f on o less = absurd (false≢true (ap is_given f))
+    by false g f on o less = absurd (false≢true (ap is_given f))
 
 module _ (program : FlowProgram) (has : HasTypes program) (settled : IsSettled (flow_typing program).table) (p : Program) (input : List ℕ)
     (s t : machine.State) (g : State) (owned : Owned (view_of (flow_typing program) s)) (kept : Kept (flow_typing program) s.memory (waiting_in s)) (same : SameState s t)
@@ -250,7 +251,7 @@ module _ (program : FlowProgram) (has : HasTypes program) (settled : IsSettled (
       subst LaterLeaks (done_first (Value first.0) o first.1 k first.3) tt
     where
       done_first : {A : Type 0} (a b : A) (i j : Flat) → Done a i ≡ Done b j → a ≡ b
-      done_first a b i j e = cc
+      done_first a b i j e = made_values e
   one_later (From r of within) n k o is grown e =
       let after : FlatSpot → List ℤ → Made Passed = (λ w zs. if fits table within zs then Done (FromSpot w of) n else flat.Halted flat.constraint n) in
       let at = got_done n (spot n r) (λ w. flat.reads n (flat.held n w (kinds table of)) (after w)) o k e in
@@ -258,11 +259,11 @@ module _ (program : FlowProgram) (has : HasTypes program) (settled : IsSettled (
       by (fits table within had.0) at.0 had.2
     where
       by : (b : Bool) (w : FlatSpot) → (if b then Done (FromSpot w of) n else flat.Halted flat.constraint n) ≡ Done o k → LaterLeaks o
-      by true w f = subst LaterLeaks (let same : FromSpot w of ≡ o = cc in same) tt
-      by false w f = cc
+      by true w f = subst LaterLeaks (made_values f) tt
+      by false w f = absurd (false≢true (ap is_made f))
   one_later (To r of at) n k o is grown e =
       let found = got_done n (spot n r) (λ w. Done (ToSpot w of at) n) o k e in
-      subst LaterLeaks (let g = found.2 in let same : ToSpot found.0 of at ≡ o = cc in same)
+      subst LaterLeaks (made_values found.2)
       (λ i later. elim is [
         | inl parts ↦ λ us words. none_leaked i.cells us (access_offsets table of) parts
         | inr there ↦ leaked_after (record { place = r; of = of }) there.0 there.1 n i grown later found.0 found.1
@@ -270,16 +271,15 @@ module _ (program : FlowProgram) (has : HasTypes program) (settled : IsSettled (
 
   all_later : (formals : List ℕ) (all : List Actual) (n k : Flat) (out : List Passed) → LooksActuals table f.base here took formals all → SafeActuals all → Grown table here took x n
       → all_passed table all n ≡ Done out k → AllLater out × Grown table here took x k
-  all_later formals [] n k out looks are grown e = (subst AllLater (let same : [] ≡ out = cc in same) tt, subst (Grown table here took x) (let same : n ≡ k = cc in same) grown)
+  all_later formals [] n k out looks are grown e = (subst AllLater (made_values e) tt, subst (Grown table here took x) (made_memories e) grown)
   all_later [] (b ∷ rest) n k out looks are grown e = absurd looks
   all_later (formal ∷ formals) (b ∷ rest) n k out looks are grown e =
       let first = made_done (passed table b n) (λ o i. flat.made_then (all_passed table rest i) (λ more. Done (o ∷ more))) out k e in
       let second = made_done (all_passed table rest first.1) (λ more. Done (first.0 ∷ more)) out k first.3 in
       let middle = passed_grows table here took x formal b n first.1 first.0 grown looks.0 first.2 in
-      let on = all_later formals rest first.1 second.1 second.0 looks.1 are.1 middle second.2 in
-      let last = second.3 in (
-        subst AllLater (let same : first.0 ∷ second.0 ≡ out = cc in same) (one_later b n first.1 first.0 are.0 grown first.2, on.0),
-        subst (Grown table here took x) (let same : second.1 ≡ k = cc in same) on.1,
+      let on = all_later formals rest first.1 second.1 second.0 looks.1 are.1 middle second.2 in (
+        subst AllLater (made_values second.3) (one_later b n first.1 first.0 are.0 grown first.2, on.0),
+        subst (Grown table here took x) (made_memories second.3) on.1,
       )
 
   -- what is lowered
@@ -382,7 +382,7 @@ module _ (program : FlowProgram) (has : HasTypes program) (settled : IsSettled (
       where
         by : (b : Bool) (ws : List _) → (if b then flat.front (kinds table d) (drop 0 (words_in ws)) else Broken) ≡ Given zs → flat.front (kinds table d) (words_in ws) ≡ Given zs
         by true ws e = e
-        by false ws e = cc
+        by false ws e = absurd (false≢true (ap is_given e))
 
         below : (o : ℕ) → Has (access_offsets table d) o → o < length (kinds table d)
         below o has_o = let at = has.laws.accesses d o has_o in subst (λ n. o < n) (sym (length-map (sorts table d) kind_of)) (below_length (sorts table d) o (Pointer at.0) at.1)
@@ -406,7 +406,7 @@ module _ (program : FlowProgram) (has : HasTypes program) (settled : IsSettled (
         λ us words_there. in_cell n us (subst (λ j. n < j) (length-map t.memory.cells (λ (cell : HeapCell). cell.of)) word.1) to words_there
       where
         given_one : (a b : List ℤ) → Given a ≡ Given b → a ≡ b
-        given_one a b e = cc
+        given_one a b e = given_values e
 
         one_word : (ws : List Word) (n : ℕ) → IsValue table (types t.memory) (Pointer d ∷ []) ws (pos (suc n) ∷ []) → (ws ≡ Cell (suc n) ∷ []) × (n < length (types t.memory))
         one_word [] n value = absurd value.stand

@@ -22,14 +22,18 @@ use Rattle.soundness.specs.Typed.{Kept, Spot}
 use Rattle.soundness.proofs.Numbers.{index_law}
 use Rattle.soundness.proofs.Steps.{plain_shape, content_slots}
 use Rattle.soundness.specs.TypedLaws.Needed.{Matches, Leads}
+use Rattle.soundness.proofs.Parted.{not_empty}
+use Rattle.std.proofs.lemmas.Bool.{false≢true}
+use Rattle.viewed_steps.proofs.Parted.{list_first}
+use Rattle.recycled_runs.proofs.Parted.{is_done_value, evaluated_values}
 
 -- ---- one after the other
 
 -- What comes last is done where all of it is.
 pub followed : {A B : Type 0} (x : Evaluated A) (f : A → Now → Evaluated B) (b : B) (n : Now) → followed_by x f ≡ Done b n → (a : A) × (k : Now) × (x ≡ Done a k) × (f a k ≡ Done b n)
 followed (Done a k) f b n e = (a, k, refl, e)
-followed (Raises x k) f b n e = cc
-followed (Traps x k) f b n e = cc
+followed (Raises x k) f b n e = absurd (false≢true (ap is_done_value e))
+followed (Traps x k) f b n e = absurd (false≢true (ap is_done_value e))
 
 done_same : {A : Type 0} (a b : A) (k n : Now) → Done a k ≡ Done b n → (a ≡ b) × (k ≡ n)
 done_same a b k n e = (cc, cc)
@@ -56,16 +60,16 @@ StepsThrough (run.ToDesignated ∷ rest) = Unit {0}
 StepsThrough _ = ⊥
 
 index_within : (low high : ℤ) (ws : List machine.Word) (now : Now) (i : ℕ) (n : Now) → indexed low high ws now ≡ Done i n → i < span low high
-index_within low high [] now i n e = cc
+index_within low high [] now i n e = absurd (false≢true (ap is_done_value e))
 index_within low high (machine.Int v ∷ []) now i n e = by (int_le low v && int_le v high) refl e
   where
     by : (b : Bool) → int_le low v && int_le v high ≡ b → (if b then Done (unsigned_abs (v -ℤ low)) now else Raises run.ConstraintError now) ≡ Done i n → i < span low high
-    by true fits f = subst (λ k. k < span low high) (let same : unsigned_abs (v -ℤ low) ≡ i = cc in same) (index_law low high v fits)
-    by false fits f = cc
-index_within low high (machine.Int v ∷ w ∷ ws) now i n e = cc
-index_within low high (machine.Enumerated v ∷ ws) now i n e = cc
-index_within low high (machine.Null ∷ ws) now i n e = cc
-index_within low high (machine.Cell v ∷ ws) now i n e = cc
+    by true fits f = subst (λ k. k < span low high) (evaluated_values f) (index_law low high v fits)
+    by false fits f = absurd (false≢true (ap is_done_value f))
+index_within low high (machine.Int v ∷ w ∷ ws) now i n e = absurd (false≢true (ap is_done_value e))
+index_within low high (machine.Enumerated v ∷ ws) now i n e = absurd (false≢true (ap is_done_value e))
+index_within low high (machine.Null ∷ ws) now i n e = absurd (false≢true (ap is_done_value e))
+index_within low high (machine.Cell v ∷ ws) now i n e = absurd (false≢true (ap is_done_value e))
 
 -- Those of a name, with their indexes evaluated.
 pub goes : (h : Here) (path : TypedTree) (t u : ℕ) (now : Now) (way : List run.Step) (n : Now) → Leads h.typing t path u → steps_of h path now ≡ Done way n
@@ -110,14 +114,14 @@ no_fields : (s : Shape) → is_scalar (view_of s) ≡ true → components_of s �
 no_fields s e = (plain_shape s e).0
 
 access_is : (d : ℕ) (c n : Bool) (s : Shape) → s ≡ shape.Access d c n → is_scalar (view_of s) ≡ true → ⊥
-access_is d c n s e f = let is : is_scalar (view_of (shape.Access d c n)) ≡ true = ap (λ z. is_scalar (view_of z)) (sym e) ∙ f in cc
+access_is d c n s e f = let is : is_scalar (view_of (shape.Access d c n)) ≡ true = ap (λ z. is_scalar (view_of z)) (sym e) ∙ f in false≢true is
 
 word_at : (n at : ℕ) (xs : List Slot) (w : machine.Word) (ws : List machine.Word) → map (λ (x : Slot). x.word) (take n (drop at xs)) ≡ w ∷ ws → (get_or xs at no_slot).word ≡ w
-word_at zero zero xs w ws e = cc
-word_at (suc n) zero [] w ws e = cc
-word_at (suc n) zero (x ∷ xs) w ws e = cc
-word_at zero (suc at) [] w ws e = cc
-word_at (suc n) (suc at) [] w ws e = cc
+word_at zero zero xs w ws e = absurd (not_empty (sym e))
+word_at (suc n) zero [] w ws e = absurd (not_empty (sym e))
+word_at (suc n) zero (x ∷ xs) w ws e = list_first e
+word_at zero (suc at) [] w ws e = absurd (not_empty (sym e))
+word_at (suc n) (suc at) [] w ws e = absurd (not_empty (sym e))
 word_at n (suc at) (x ∷ xs) w ws e = word_at n at xs w ws e
 
 module _ (s : Typing) (m : Memory) (hands : List Waiting) (kept : Kept s m hands) where
@@ -187,16 +191,16 @@ module _ (s : Typing) (m : Memory) (hands : List Waiting) (kept : Kept s m hands
 
   designates : (u : ℕ) (ws : List machine.Word) (now : Now) (p : Place) (n : Now) → designated_place u ws now ≡ Done p n
       → (j : ℕ) × (ws ≡ machine.Cell j ∷ []) × ((cell now.memory j).freed ≡ false) × (p ≡ cell_place u j) × (n ≡ now)
-  designates u [] now p n e = cc
-  designates u (machine.Int v ∷ ws) now p n e = cc
-  designates u (machine.Enumerated v ∷ ws) now p n e = cc
-  designates u (machine.Null ∷ ws) now p n e = cc
-  designates u (machine.Cell j ∷ w ∷ ws) now p n e = cc
+  designates u [] now p n e = absurd (false≢true (ap is_done_value e))
+  designates u (machine.Int v ∷ ws) now p n e = absurd (false≢true (ap is_done_value e))
+  designates u (machine.Enumerated v ∷ ws) now p n e = absurd (false≢true (ap is_done_value e))
+  designates u (machine.Null ∷ ws) now p n e = absurd (false≢true (ap is_done_value e))
+  designates u (machine.Cell j ∷ w ∷ ws) now p n e = absurd (false≢true (ap is_done_value e))
   designates u (machine.Cell j ∷ []) now p n e = by (cell now.memory j).freed refl e
     where
       by : (b : Bool) → (cell now.memory j).freed ≡ b → (if b then Traps run.Touched now else Done (cell_place u j) now) ≡ Done p n
           → (i : ℕ) × (machine.Cell j ∷ [] ≡ machine.Cell i ∷ []) × ((cell now.memory i).freed ≡ false) × (p ≡ cell_place u i) × (n ≡ now)
-      by true freed f = cc
+      by true freed f = absurd (false≢true (ap is_done_value f))
       by false freed f = let same = done_same (cell_place u j) p now n f in (j, refl, freed, sym same.0, sym same.1)
 
   pub walk : (way : List run.Step) (k : Place) (l : Loc) (u : ℕ) (waits : List (List machine.Word)) (p : Place) (n : Now) → Spot s m hands k l → IsLive m k.base → Lead s.table k.of way u
@@ -241,15 +245,15 @@ still s (run.ToDesignated ∷ rest) k now p n e =
     stood (designated s.table k.of) (words_of s now.memory k) on.0 on.1 on.2 ∙ still s rest on.0 on.1 p n on.3
   where
     stood : (u : ℕ) (ws : List machine.Word) (q : Place) (mid : Now) → designated_place u ws now ≡ Done q mid → now ≡ mid
-    stood u [] q mid e = cc
-    stood u (machine.Int v ∷ ws) q mid e = cc
-    stood u (machine.Enumerated v ∷ ws) q mid e = cc
-    stood u (machine.Null ∷ ws) q mid e = cc
-    stood u (machine.Cell j ∷ w ∷ ws) q mid e = cc
+    stood u [] q mid e = absurd (false≢true (ap is_done_value e))
+    stood u (machine.Int v ∷ ws) q mid e = absurd (false≢true (ap is_done_value e))
+    stood u (machine.Enumerated v ∷ ws) q mid e = absurd (false≢true (ap is_done_value e))
+    stood u (machine.Null ∷ ws) q mid e = absurd (false≢true (ap is_done_value e))
+    stood u (machine.Cell j ∷ w ∷ ws) q mid e = absurd (false≢true (ap is_done_value e))
     stood u (machine.Cell j ∷ []) q mid e = by (cell now.memory j).freed e
       where
         by : (b : Bool) → (if b then Traps run.Touched now else Done (cell_place u j) now) ≡ Done q mid → now ≡ mid
-        by true f = cc
+        by true f = absurd (false≢true (ap is_done_value f))
         by false f = (done_same (cell_place u j) q now mid f).1
 
 module _ (h : Here) (m : Memory) (hands : List Waiting) (kept : Kept h.typing m hands) where

@@ -30,6 +30,7 @@ use Rattle.soundness.specs.ExactFacts.Exact.{IsOfVariable, NoneFails}
 use Rattle.soundness.proofs.ExactFacts.Parts.{plain_leaf}
 use Rattle.soundness.proofs.ExactFacts.Memories.{sels_part, named_part, end_plain, same_told}
 use Rattle.recycled_runs.specs.ViewedFacts.Exact.{IsDefiniteBy, IsDefinite, IsExact}
+use Rattle.soundness.proofs.Parted.{empty_gone}
 
 module _ (s : Typing) (settled : IsSettled s.table) (home : ℕ → ℕ) (v : Views) (elsewhere : Way → Type 0) (m : Memory) (hands : List Waiting) (leaks : List Leak)
     (facts : List Fact) (variables : (w : Way) → IsDefinite home v elsewhere facts w → IsOfVariable w) (exact : IsExact s home v elsewhere m facts)
@@ -53,7 +54,7 @@ module _ (s : Typing) (settled : IsSettled s.table) (home : ℕ → ℕ) (v : Vi
       same_told s (seen s m [] []) (seen s m hands leaks) m [] hands (IsDefinite home v elsewhere facts) variables (λ z. refl) (λ z. refl) exact in
       let word = told (along (expand v u) leaf.path) (part l leaf.path) (inl definite) (reaches_along (seen s m hands leaks) (expand v u) l leaf.path reaches) in
       let c : Content = content s m hands (trunk l) in
-      let there = shown s.table c (leaf.path ++ steps_in l) Gone (λ z. cc) (sym (word_part s.table (content s m hands) l leaf.path) ∙ word) in
+      let there = shown s.table c (leaf.path ++ steps_in l) Gone empty_gone (sym (word_part s.table (content s m hands) l leaf.path) ∙ word) in
       let like = alike s.table settled k.of (type_in s.table c.of (steps_in l)) place.of in
       let joins = offset_join s.table c.of (steps_in l) leaf.path in
       let same = like.at leaf.path leaf.leaf in

@@ -60,6 +60,7 @@ use Rattle.recycled_runs.specs.ViewedFacts.Exact.{IsExact}
 use Rattle.recycled_runs.proofs.ViewedFacts.Memories.{stored_exact}
 use Rattle.recycled_runs.proofs.ViewedFacts.Instructions.{ExactOn, same_exact}
 use Rattle.viewed_steps.proofs.Views.{AreAccess, scalar_no_view, formal_view}
+use Rattle.soundness.proofs.Parted.{int_cell}
 
 module _ (t : Turn) (sees : ℕ → Bool) (seeing : Seeing (typing t) sees) (settled : IsSettled (typing t).table) (own_law : OwnsByShape (typing t).table) (other : Around (home (typing t) (length t.outer)))
     (alone : (w : Way) → IsNear (length t.outer) w → other.gone w → ⊥) (in_formals : AreAccess (typing t))
@@ -207,7 +208,7 @@ module _ (t : Turn) (sees : ℕ → Bool) (seeing : Seeing (typing t) sees) (set
 
     ready_in : Ready (here t) sees seeing settled t.state.leaks [] other alone (keeps s settled own_law) index_law own_law v parts_named m (value_in ∷ hands) facts
     ready_in = blank_ready (here t) sees seeing settled t.state.leaks [] other alone (keeps s settled own_law) index_law own_law v parts_named
-        m hands facts u (machine.Int i ∷ []) (λ k has. elim has [ inl e ↦ cc | inr e ↦ e ])
+        m hands facts u (machine.Int i ∷ []) (λ k has. elim has [ inl e ↦ int_cell e | inr e ↦ e ])
         (record { viewed = good.viewed; kept = good.kept; holds = good.holds })
 
     module _ (w : Way) (named : Named (home s depth) w) (plain : sees (number_of w) ≡ false) (allowed : Allows facts (act.Write (ways.name_of w)))

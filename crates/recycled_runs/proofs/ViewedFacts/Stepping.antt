@@ -95,6 +95,7 @@ use Rattle.recycled_runs.proofs.ViewedFacts.Given.{gives_no_call, first_plain}
 use Rattle.viewed_steps.specs.Seeing.{sees_in}
 use Rattle.viewed_steps.proofs.Sees.{sees_seeing}
 use Rattle.viewed_steps.proofs.InnerFrame.{InnerFrame}
+use Rattle.viewed_steps.proofs.Parted.{more_first, more_none, call_name}
 
 module _ (table : Table) (typed : TypedProgram) (effects : Effects) (input : List ℕ) (ready : IsReady table typed effects) where
   abbrev sees : ℕ → Bool
@@ -328,10 +329,10 @@ module _ (table : Table) (typed : TypedProgram) (effects : Effects) (input : Lis
             ready.class.parts_named elsewhere away facts_now (value (steps.here at) call (now ws))) (sym (alone_value.first_value table typed effects input ready inner going taken_alone).1.3) exact))
 
         no_name : (r : Pos) (b : ℕ) (w : TypedTree) (o : ℕ) → call ≡ Name r b w o → ⊥
-        no_name r b w o e = cc
+        no_name r b w o e = call_name e
 
         same_first : (a b : TypedTree) → ◌≡◌ {A = TypedTree} (More a NoMore) (More b NoMore) → a ≡ b
-        same_first a b e = cc
+        same_first a b e = more_first e
 
         declares_view : (y : ℕ) → inner.p.instr ≡ Declare y (More call NoMore) → is_anonymous (view_of s y) ≡ true → Exacts (Declare y (More call NoMore))
         unfolding initial
@@ -435,7 +436,7 @@ module _ (table : Table) (typed : TypedProgram) (effects : Effects) (input : Lis
         -- the value is of what the function returns
         result_there : inner.p.instr ≡ Hold (More call NoMore) → (r : Option ℕ) → inner.named.sub.result ≡ r → Returns s r (More call NoMore)
             → (of : ℕ) × (inner.named.sub.result ≡ Some of) × Source s of call
-        result_there is None result none = (let never : ◌≡◌ {A = TypedTree} (More call NoMore) NoMore = none in cc)
+        result_there is None result none = absurd (more_none none)
         result_there is (Some of) result (e, same, source) = (of, result, subst (Source s of) (sym (same_first call e same)) source)
 
         alone_exact : (inner.p.instr ≡ Finish → ⊥) → AllowsAll facts_now (acts_by inner.p.instr) → AllKeep (is_fixed s sees) (acts_by inner.p.instr) → Exacts inner.p.instr

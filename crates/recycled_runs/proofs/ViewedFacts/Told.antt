@@ -66,6 +66,7 @@ use Rattle.viewed_steps.specs.Seeing.{sees_in}
 use Rattle.viewed_steps.proofs.Sees.{sees_seeing}
 use Rattle.recycled_runs.proofs.ViewedFacts.Constructors.{is_declare_instruction, is_goes_outcome, is_hold_instruction}
 use Rattle.viewed_steps.proofs.InnerFrame.{InnerFrame}
+use Rattle.recycled_runs.proofs.Parted.{goes_states}
 
 assigned_same : {a b c d : TypedTree} → Assign a b ≡ Assign c d → b ≡ d
 assigned_same e = cc
@@ -336,6 +337,6 @@ module _ (table : Table) (typed : TypedProgram) (effects : Effects) (input : Lis
           goes_exact : (outcome : Outcome) → outcome ≡ Goes next → ExactAt (after (acts_by inner.p.instr) facts_now) at.point.leaks outcome
               → IsExact s (home s depth) inner.views elsewhere next.memory (after (acts_by inner.p.instr) facts_now)
           goes_exact (Goes after_step) same_step on = (
-              let state_same : after_step ≡ next = cc in
+              let state_same : after_step ≡ next = goes_states same_step in
               subst (λ (z : State). IsExact s (home s depth) inner.views elsewhere z.memory (after (acts_by inner.p.instr) facts_now)) state_same on.0)
           goes_exact (Ends how after_step) same_step on = absurd (false≢true (ap is_goes_outcome same_step))

@@ -75,6 +75,7 @@ use Rattle.recycled_runs.proofs.ViewedFacts.Steps.{IsAway}
 use Rattle.viewed_steps.specs.Seeing.{sees_in}
 use Rattle.viewed_steps.proofs.Sees.{sees_seeing}
 use Rattle.viewed_steps.proofs.InnerFrame.{InnerFrame}
+use Rattle.viewed_steps.proofs.Parted.{more_first, more_none}
 
 module _ (table : Table) (typed : TypedProgram) (effects : Effects) (input : List ℕ) (ready : IsReady table typed effects) where
   abbrev sees : ℕ → Bool
@@ -270,11 +271,11 @@ module _ (table : Table) (typed : TypedProgram) (effects : Effects) (input : Lis
             (value_exact u type_there source fronts.0 fronts.1 fronts.2 fronts.4 allows.0 keep.0))))
 
         same_first : (a b : TypedTree) → ◌≡◌ {A = TypedTree} (More a NoMore) (More b NoMore) → a ≡ b
-        same_first a b e = cc
+        same_first a b e = more_first e
 
         -- the value is of what the function returns
         result_there : (r : Option ℕ) → inner.named.sub.result ≡ r → Returns s r (More held NoMore) → (of : ℕ) × (inner.named.sub.result ≡ Some of) × Source s of held
-        result_there None result none = (let never : ◌≡◌ {A = TypedTree} (More held NoMore) NoMore = none in cc)
+        result_there None result none = absurd (more_none none)
         result_there (Some of) result (e, same, source) = (of, result, subst (Source s of) (sym (same_first held e same)) source)
 
         returns : inner.p.instr ≡ Hold (More held NoMore) → ((t : ℕ) → inner.named.sub.result ≡ Some t → is_anonymous (full s.table t) ≡ false) → AllowsAll facts_now (acts_by (Hold (More held NoMore))) → AllKeep (is_fixed s sees) (acts_by (Hold (More held NoMore)))

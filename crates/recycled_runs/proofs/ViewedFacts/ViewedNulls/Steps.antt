@@ -93,6 +93,7 @@ use Rattle.viewed_steps.specs.Seeing.{sees_in}
 use Rattle.viewed_steps.proofs.Sees.{sees_seeing}
 use Rattle.recycled_runs.proofs.ViewedFacts.Constructors.{is_call_instruction, is_finish_instruction, is_hold_instruction}
 use Rattle.viewed_steps.proofs.InnerFrame.{InnerFrame}
+use Rattle.viewed_steps.proofs.Constructors.{is_end_scope_instruction}
 
 -- whether the scope of an object ends
 end_or : (i : Instruction) → ((x : ℕ) × (i ≡ EndScope x)) ⊎ ((x : ℕ) → i ≡ EndScope x → ⊥)
@@ -168,7 +169,7 @@ module _ (table : Table) (typed : TypedProgram) (effects : Effects) (input : Lis
     declares : (x : ℕ) (v : TypedTree) → p.instr ≡ Declare x v → has_call v ≡ false → FirstGoal p.instr
     declares x v e none =
         let no_call : IsNoCall p.instr = (λ k actuals result is. (let no : Declare x v ≡ Call k actuals result = sym e ∙ is in absurd (false≢true (ap is_call_instruction no)))) in
-        let no_end : (y : ℕ) → p.instr ≡ EndScope y → ⊥ = (λ y is. (let no : Declare x v ≡ EndScope y = sym e ∙ is in cc)) in
+        let no_end : (y : ℕ) → p.instr ≡ EndScope y → ⊥ = (λ y is. (let no : Declare x v ≡ EndScope y = sym e ∙ is in false≢true (ap is_end_scope_instruction no))) in
         own_instructions.each_same table typed effects input ready state top.frame [] named p nowhere alone_first views facts_first _
         (ready.orderly.points named (standing.named_in table typed effects input ready state top [] [] named p frames of_sub at_point) p
         (standing.point_in_named table typed effects input ready state top [] [] named p frames of_sub at_point)) (start first_turn).waits

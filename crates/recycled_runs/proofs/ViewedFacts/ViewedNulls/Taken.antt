@@ -73,6 +73,7 @@ use Rattle.soundness.proofs.Contents.{bool_cases}
 use Rattle.viewed_steps.specs.Seeing.{sees_in}
 use Rattle.viewed_steps.proofs.Sees.{sees_seeing}
 use Rattle.viewed_steps.proofs.InnerFrame.{InnerFrame}
+use Rattle.viewed_steps.proofs.Parted.{more_first, more_none}
 
 module _ (table : Table) (typed : TypedProgram) (effects : Effects) (input : List ℕ) (ready : IsReady table typed effects)
     (compared : AreCompared (flow_program table typed)) where
@@ -294,7 +295,7 @@ module _ (table : Table) (typed : TypedProgram) (effects : Effects) (input : Lis
           where
             by_result : (r : Option ℕ) → inner.p.instr ≡ Hold (More (CallIn by_itself.3 by_itself.4 by_itself.5) NoMore) → inner.named.sub.result ≡ r
                 → Returns s r (More (CallIn by_itself.3 by_itself.4 by_itself.5) NoMore) → Goal (Hold (More (CallIn by_itself.3 by_itself.4 by_itself.5) NoMore))
-            by_result None is result none = absurd (let no : ◌≡◌ {A = TypedTree} (More call NoMore) NoMore = none in cc)
+            by_result None is result none = absurd (more_none none)
             by_result (Some of) is result fine = holds_value call of result (elim (bool_cases (is_anonymous (full s.table of))) [
               | inl view ↦ call_taken main_turn sees seeing ready.accepted.settled ready.owns other alone in_formals inner.views ready.class.parts_named facts_now so only n agrees of by_itself.3 by_itself.4 by_itself.5 view
               | inr owner ↦ call_same_value of (plain_named s.table of owner)
@@ -372,12 +373,12 @@ module _ (table : Table) (typed : TypedProgram) (effects : Effects) (input : Lis
             takes tt (subst (ComparesIn s) is compares).0 facts_then allows.1 ws i j given now))
 
         same_first : (a b : TypedTree) → ◌≡◌ {A = TypedTree} (More a NoMore) (More b NoMore) → a ≡ b
-        same_first a b e = cc
+        same_first a b e = more_first e
 
         returns_within : inner.p.instr ≡ Hold (More held NoMore) → ((t : ℕ) → inner.named.sub.result ≡ Some t → is_anonymous (full s.table t) ≡ false) → (r : Option ℕ) → inner.named.sub.result ≡ r → Returns s r (More held NoMore)
             → AllowsAll facts_now (acts_of_main (Hold (More held NoMore))) → AllKeep (is_fixed s sees) (acts_of_main (Hold (More held NoMore))) → Goal (Hold (More held NoMore))
         unfolding Compares types_taken
-        returns_within is plain None result none allowed keep = absurd (let no : ◌≡◌ {A = TypedTree} (More held NoMore) NoMore = none in cc)
+        returns_within is plain None result none allowed keep = absurd (more_none none)
         returns_within is plain (Some of) result (e, same, source) allowed keep =
             let own_type : IsNamed s.table of = plain_named s.table of (plain of result) in
             let acts_same : acts_of_main (Hold (More held NoMore)) ≡ acts (acts_in s held) = returned_acts of held result (plain of result) in
