@@ -24,7 +24,7 @@ use Rattle.soundness.specs.Seen.{Content, in_hand, word_in, owner_at, owner_word
 use Rattle.soundness.specs.Changes.{Alike, Put, leaks_at, is_leaked, Checks, hand, Stores, Takes}
 use Rattle.soundness.proofs.Joined.{offset_join, leaf_join, trunk_part, steps_part, trunk_trunk, below_from, below_root}
 use Rattle.soundness.proofs.Constructors.{is_gone_word, is_held_word}
-use Rattle.soundness.proofs.Parted.{held_cells, empty_held, empty_gone}
+use Rattle.soundness.proofs.Parted.{held_cells, empty_held, empty_gone, by_either}
 
 pub bool_cases : (b : Bool) → (b ≡ true) ⊎ (b ≡ false)
 bool_cases true = inl refl
@@ -114,7 +114,7 @@ module _ (table : Table) (settled : IsSettled table) where
       by_leaf (inl holds) =
           let out = leaf_outside table settled c.of p q holds there off in
           let same : get_or d.slots (offset_in table c.of p) no_slot ≡ get_or c.slots (offset_in table c.of p) no_slot =
-          put.outside (offset_in table c.of p) (elim out [ inl lt ↦ inl lt | inr le ↦ inr (omega (arith, le, long)) ]) in
+          put.outside (offset_in table c.of p) (by_either out (λ lt. (inl lt)) (λ le. (inr (omega (arith, le, long))))) in
           ap (λ s. if c.owns && is_leaf table c.of p then owner_word s else Empty) same
       by_leaf (inr isnt) =
           word_no table (record { of = c.of; slots = d.slots; owns = c.owns }) p isnt ∙ sym (word_no table c p isnt)

@@ -20,7 +20,7 @@ use Rattle.machine.specs.Evaluate as run
 use Rattle.soundness.specs.OwnedWays.Ways.{OfVariable, OfRoot}
 use Rattle.soundness.proofs.OwnedWays.Locations.{same_loc}
 use Rattle.soundness.proofs.Memories.{put_same, put_other, changed_inside, changed_outside, marked_word, marked_length, still_gone}
-use Rattle.soundness.proofs.Parted.{loc_frames, loc_objects}
+use Rattle.soundness.proofs.Parted.{loc_frames, loc_objects, by_either}
 
 -- the word is the same, and what is gone stays gone
 pub record Fainter (a b : Slot) : Type 0 where
@@ -136,15 +136,14 @@ module _ (s : Typing) where
       by_base (memory.OfVariable g y) e =
           subst (λ z. Fainter (get_or (variable_slots s f x m.variables) o no_slot) (get_or (variable_slots s f x
           (moved_out s (record { base = z; at = k.at; of = k.of }) m).variables) o no_slot)) (sym e)
-          (elim (same_loc (OfRoot (OfVariable f x)) (OfRoot (OfVariable g y))) [
-            | inr ne ↦ same_slot _ _ (ap (λ z. get_or z o no_slot) (put_other s g y f x (λ a. ne (ap OfRoot (sym a))) (change g y) m.variables))
-            | inl a ↦ (
-                let b : f ≡ g = loc_frames a in let c : x ≡ y = loc_objects a in
-                subst (λ z. Fainter (get_or (variable_slots s z x m.variables) o no_slot) (get_or (variable_slots s z x (with_variable g y (change g y) m.variables)) o no_slot)) (sym b)
-                (subst (λ z. Fainter (get_or (variable_slots s g z m.variables) o no_slot) (get_or (variable_slots s g z (with_variable g y (change g y) m.variables)) o no_slot)) (sym c)
-                (subst (λ z. Fainter (get_or (variable_slots s g y m.variables) o no_slot) (get_or z o no_slot)) (sym (put_same s g y (change g y) m.variables))
-                (fainter (variable_slots s g y m.variables) k.at (words s.table k.of) (access_offsets s.table k.of) o))))
-          ])
+          (by_either (same_loc (OfRoot (OfVariable f x)) (OfRoot (OfVariable g y)))
+          (λ a. (
+          let b : f ≡ g = loc_frames a in let c : x ≡ y = loc_objects a in
+          subst (λ z. Fainter (get_or (variable_slots s z x m.variables) o no_slot) (get_or (variable_slots s z x (with_variable g y (change g y) m.variables)) o no_slot)) (sym b)
+          (subst (λ z. Fainter (get_or (variable_slots s g z m.variables) o no_slot) (get_or (variable_slots s g z (with_variable g y (change g y) m.variables)) o no_slot)) (sym c)
+          (subst (λ z. Fainter (get_or (variable_slots s g y m.variables) o no_slot) (get_or z o no_slot)) (sym (put_same s g y (change g y) m.variables))
+          (fainter (variable_slots s g y m.variables) k.at (words s.table k.of) (access_offsets s.table k.of) o)))))
+          (λ ne. (same_slot _ _ (ap (λ z. get_or z o no_slot) (put_other s g y f x (λ a. ne (ap OfRoot (sym a))) (change g y) m.variables)))))
         where
           change : ℕ → ℕ → List Slot
           change g y = marked (variable_slots s g y m.variables) k.at (words s.table k.of) (access_offsets s.table k.of)

@@ -18,6 +18,7 @@ use Rattle.soundness.proofs.Joined.{trunk_trunk, not_inside, below_from, below_c
 use Rattle.soundness.proofs.Contents.{bool_cases, word_no, word_dead, word_part, put_outside, put_inside}
 use Rattle.soundness.proofs.Memories.{at_same, at_other, at_length}
 use Rattle.soundness.proofs.Steps.{matches_words, put_at, put_off, put_count, put_freed, content_slots, room}
+use Rattle.soundness.proofs.Parted.{by_either}
 
 -- ---- the cells of a memory in which one is freed
 
@@ -77,17 +78,10 @@ not_longer (i ∷ r) q e isnt = cc
 
 -- one list ends with another one, or doesn't
 in_or_not : (p q : List Step) → ((r : List Step) × (p ≡ r ++ q)) ⊎ ((r : List Step) → p ≡ r ++ q → ⊥)
-in_or_not [] q = elim (same_steps [] q) [
-  | inl e ↦ inl ([], e)
-  | inr isnt ↦ inr (λ r e. not_longer r q e isnt)
-]
-in_or_not (i ∷ p) q = elim (same_steps (i ∷ p) q) [
-  | inl e ↦ inl ([], e)
-  | inr isnt ↦ elim (in_or_not p q) [
-    | inl found ↦ inl (i ∷ found.0, ap (λ z. i ∷ z) found.1)
-    | inr off ↦ inr (λ r e. never r e isnt off)
-  ]
-]
+in_or_not [] q = by_either (same_steps [] q) (λ e. (inl ([], e))) (λ isnt. (inr (λ r e. not_longer r q e isnt)))
+in_or_not (i ∷ p) q = by_either (same_steps (i ∷ p) q)
+    (λ e. (inl ([], e)))
+    (λ isnt. (by_either (in_or_not p q) (λ found. (inl (i ∷ found.0, ap (λ z. i ∷ z) found.1))) (λ off. (inr (λ r e. never r e isnt off)))))
   where
     never : (r : List Step) → i ∷ p ≡ r ++ q → (i ∷ p ≡ q → ⊥) → ((r : List Step) → p ≡ r ++ q → ⊥) → ⊥
     never [] e isnt off = isnt e

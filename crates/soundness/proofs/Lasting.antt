@@ -29,7 +29,7 @@ use Rattle.soundness.proofs.Frees.{freed_count}
 use Rattle.soundness.proofs.Evaluated.{Keeps}
 use Rattle.soundness.proofs.Defaults.{none_default}
 use Rattle.soundness.proofs.Ends.{declared_there, removed_there, new_there, new_other, new_count}
-use Rattle.soundness.proofs.Parted.{loc_frames, loc_objects, word_cells}
+use Rattle.soundness.proofs.Parted.{loc_frames, loc_objects, word_cells, by_either}
 
 -- ---- types
 
@@ -240,27 +240,22 @@ module _ (s : Typing) (settled : IsSettled s.table) (m : Memory) where
       let all : List Slot = take k.at (slots_at s m k.base) ++ marks ++ drop (k.at + length marks) (slots_at s m k.base) in
       let more : Extends m (moved_out s k m) = put_extends k.base all in
       let same : (o : ℕ) → (get_or (content s (moved_out s k m) rest (loc_of k.base)).slots o no_slot).word ≡ (get_or (content s m rest (loc_of k.base)).slots o no_slot).word =
-      (λ o. elim (where_ k.at (length marks) o) [
-        | inl out ↦ ap (λ (x : Slot). x.word) (change.outside o out)
-        | inr (i, lt, is) ↦ ap (λ z. (get_or (content s (moved_out s k m) rest (loc_of k.base)).slots z no_slot).word) is
-            ∙ ap (λ (x : Slot). x.word) (change.inside i lt) ∙ marked_word (access_offsets s.table k.of) (slots_of s m k) i
-            ∙ ap (λ (x : Slot). x.word) (some.1 i (omega (arith, lt, many)))
-            ∙ ap (λ z. (get_or z (k.at + i) no_slot).word) (sym (content_slots s m rest k.base spot.made))
-            ∙ ap (λ z. (get_or (content s m rest (loc_of k.base)).slots z no_slot).word) (sym is)
-      ]) in
+      (λ o. by_either (where_ k.at (length marks) o)
+      (λ out. (ap (λ (x : Slot). x.word) (change.outside o out)))
+      (λ (i, lt, is). (ap (λ z. (get_or (content s (moved_out s k m) rest (loc_of k.base)).slots z no_slot).word) is
+      ∙ ap (λ (x : Slot). x.word) (change.inside i lt) ∙ marked_word (access_offsets s.table k.of) (slots_of s m k) i
+      ∙ ap (λ (x : Slot). x.word) (some.1 i (omega (arith, lt, many)))
+      ∙ ap (λ z. (get_or z (k.at + i) no_slot).word) (sym (content_slots s m rest k.base spot.made))
+      ∙ ap (λ z. (get_or (content s m rest (loc_of k.base)).slots z no_slot).word) (sym is)))) in
       kept_with s settled (moved_out s k m) (record { of = k.of; words = words_of s m k }) rest
       (still_points s m (moved_out s k m) more (in_hand (record { of = k.of; words = words_of s m k })) (copied_points s settled m rest k l spot kept))
       (put_kept rest k marks kept spot.made fit
       (same_points s m (moved_out s k m) more (content s m rest (loc_of k.base)) (content s (moved_out s k m) rest (loc_of k.base)) change.of same (kept.points (loc_of k.base))))
     where
       where_ : (at n o : ℕ) → ((o < at) ⊎ (at + n ≤ o)) ⊎ ((i : ℕ) × (i < n) × (o ≡ at + i))
-      where_ at n o = elim (cases_lt o at) [
-        | inl lt ↦ inl (inl lt)
-        | inr le ↦ elim (cases_lt o (at + n)) [
-          | inl lt ↦ inr (o - at, omega (arith, lt, le), omega (arith, le))
-          | inr more ↦ inl (inr more)
-        ]
-      ]
+      where_ at n o = by_either (cases_lt o at)
+          (λ lt. (inl (inl lt)))
+          (λ le. (by_either (cases_lt o (at + n)) (λ lt. (inr (o - at, omega (arith, lt, le), omega (arith, le)))) (λ more. (inl (inr more)))))
 
   -- ---- a cell is made
 
@@ -286,15 +281,14 @@ module _ (s : Typing) (settled : IsSettled s.table) (m : Memory) where
       let points : (l : Loc) → Points s next (content s next rest l) = by_trunk next rest (λ l t'. by_loc l t' under value_points) in
       kept_with s settled next got rest (mine count) (record {
         variables = kept.variables;
-        cells = λ k lo hi. elim (cases_lt k (suc (length m.cells))) [
-          | inl lt ↦ ap (λ (z : HeapCell). length z.slots) (new_other s m t ws k (λ e. absurd (omega (arith, e, lt))))
-              ∙ kept.cells k lo (omega (arith, lt)) ∙ ap (λ (z : HeapCell). words s.table z.of) (sym (new_other s m t ws k (λ e. absurd (omega (arith, e, lt)))))
-          | inr ge ↦ (
-              let same : k ≡ suc (length m.cells) = omega (arith, ge, hi, count) in
-              let here : cell next k ≡ record { of = t; slots = fresh ws; freed = false } = ap (cell next) same ∙ new_there s m t ws in
-              ap (λ (z : HeapCell). length z.slots) here ∙ length-map ws (λ w. record { word = w; gone = false }) ∙ long
-              ∙ ap (λ (z : HeapCell). words s.table z.of) (sym here))
-        ];
+        cells = λ k lo hi. by_either (cases_lt k (suc (length m.cells)))
+            (λ lt. (ap (λ (z : HeapCell). length z.slots) (new_other s m t ws k (λ e. absurd (omega (arith, e, lt))))
+            ∙ kept.cells k lo (omega (arith, lt)) ∙ ap (λ (z : HeapCell). words s.table z.of) (sym (new_other s m t ws k (λ e. absurd (omega (arith, e, lt)))))))
+            (λ ge. (
+            let same : k ≡ suc (length m.cells) = omega (arith, ge, hi, count) in
+            let here : cell next k ≡ record { of = t; slots = fresh ws; freed = false } = ap (cell next) same ∙ new_there s m t ws in
+            ap (λ (z : HeapCell). length z.slots) here ∙ length-map ws (λ w. record { word = w; gone = false }) ∙ long
+            ∙ ap (λ (z : HeapCell). words s.table z.of) (sym here)));
         points = points;
       })
     where
@@ -304,13 +298,12 @@ module _ (s : Typing) (settled : IsSettled s.table) (m : Memory) where
           still_points s m (with_new_cell t ws m) (new_extends t ws) (content s m rest (OfRoot (OfVariable f x))) (under (OfRoot (OfVariable f x)))
       by_loc (OfRoot (OfHand h)) t' under top =
           still_points s m (with_new_cell t ws m) (new_extends t ws) (content s m rest (OfRoot (OfHand h))) (under (OfRoot (OfHand h)))
-      by_loc (OfCell k) t' under top = elim (same_loc (OfCell k) (OfCell (suc (length m.cells)))) [
-        | inr ne ↦ subst (Points s (with_new_cell t ws m))
-            (sym (ap (λ (z : HeapCell). record { of = z.of; slots = z.slots; owns = not z.freed }) (new_other s m t ws k (λ e. ne (ap OfCell e)))))
-            (still_points s m (with_new_cell t ws m) (new_extends t ws) (content s m rest (OfCell k)) (under (OfCell k)))
-        | inl e ↦ subst (Points s (with_new_cell t ws m))
-            (sym (ap (content s (with_new_cell t ws m) rest) e ∙ ap (λ (z : HeapCell). record { of = z.of; slots = z.slots; owns = not z.freed }) (new_there s m t ws))) top
-      ]
+      by_loc (OfCell k) t' under top = by_either (same_loc (OfCell k) (OfCell (suc (length m.cells))))
+          (λ e. (subst (Points s (with_new_cell t ws m))
+          (sym (ap (content s (with_new_cell t ws m) rest) e ∙ ap (λ (z : HeapCell). record { of = z.of; slots = z.slots; owns = not z.freed }) (new_there s m t ws))) top))
+          (λ ne. (subst (Points s (with_new_cell t ws m))
+          (sym (ap (λ (z : HeapCell). record { of = z.of; slots = z.slots; owns = not z.freed }) (new_other s m t ws k (λ e. ne (ap OfCell e)))))
+          (still_points s m (with_new_cell t ws m) (new_extends t ws) (content s m rest (OfCell k)) (under (OfCell k)))))
       by_loc (Inside l i) t' under top = absurd (not_inside l l i t')
 
       mine : length (with_new_cell t ws m).cells ≡ suc (length m.cells)

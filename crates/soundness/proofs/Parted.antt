@@ -1,6 +1,6 @@
 -- Equal values of one constructor hold equal parts, and values of two constructors aren't equal: one lemma each, so that
 -- no proof within a long section searches for it.
-use Rattle.std.proofs.Common.{◌≡◌, ℕ, Some, List, [], ◌∷◌}
+use Rattle.std.proofs.Common.{◌≡◌, ◌⊎◌, inl, inr, ℕ, Some, List, [], ◌∷◌}
 use Rattle.std.specs.Prelude.{ℤ}
 use Rattle.machine.specs.Memory as memory
 use Rattle.machine.specs.Words as words
@@ -65,3 +65,8 @@ loc_hands e = cc
 
 pub not_empty : {A : Type 0} {x : A} {xs : List A} → x ∷ xs ≡ [] → ⊥
 not_empty e = cc
+
+-- What follows from either side. A term of it is read once, where that of an `elim` is read twice, and again within another.
+pub by_either : {A B C : Type 0} → A ⊎ B → (A → C) → (B → C) → C
+by_either (inl a) f g = f a
+by_either (inr b) f g = g b

@@ -18,7 +18,7 @@ use Rattle.soundness.specs.Sound.{HoldOnly}
 use Rattle.soundness.proofs.Contents.{bool_cases, owner_held, word_yes, shown}
 use Rattle.soundness.proofs.Memories.{put_other, removed_other}
 use Rattle.soundness.proofs.Fading.{Fainter, Fades}
-use Rattle.soundness.proofs.Parted.{loc_frames, loc_objects, empty_held}
+use Rattle.soundness.proofs.Parted.{loc_frames, loc_objects, empty_held, by_either}
 
 abbrev pub NoVariable : ℕ → ℕ → Type 0
 NoVariable f x = ⊥
@@ -51,18 +51,16 @@ module _ (s : Typing) where
       was_there x a b = (λ j. record { word = a j; gone = b j })
 
       before : Fainter old (get_or (variable_slots s f x n.variables) o no_slot) → old ≡ owned c
-      before faint = elim (bool_cases old.gone) [
-        | inl gone ↦ (let yes : true ≡ false = sym (faint.gone gone) ∙ ap (λ (z : Slot). z.gone) e in absurd (true≢false yes))
-        | inr whole ↦ was_there old (sym faint.word ∙ ap (λ (z : Slot). z.word) e) whole
-      ]
+      before faint = by_either (bool_cases old.gone)
+          (λ gone. (let yes : true ≡ false = sym (faint.gone gone) ∙ ap (λ (z : Slot). z.gone) e in absurd (true≢false yes)))
+          (λ whole. (was_there old (sym faint.word ∙ ap (λ (z : Slot). z.word) e) whole))
 
   -- a store at a place changes the variable of the place alone
   pub only_put : (b : Base) (slots : List Slot) (m : Memory) → OnlyAt (λ f x. b ≡ OfVariable f x) m (put b slots m)
   only_put (OfCell k) slots m f x o c e = inl e
-  only_put (OfVariable g y) slots m f x o c e = elim (same_loc (OfRoot (ways.OfVariable g y)) (OfRoot (ways.OfVariable f x))) [
-    | inl same ↦ (let frames : g ≡ f = loc_frames same in let objects : y ≡ x = loc_objects same in inr (λ j. OfVariable (frames j) (objects j)))
-    | inr ne ↦ inl (ap (λ z. get_or z o no_slot) (sym (put_other s g y f x (λ a. ne (ap OfRoot a)) slots m.variables)) ∙ e)
-  ]
+  only_put (OfVariable g y) slots m f x o c e = by_either (same_loc (OfRoot (ways.OfVariable g y)) (OfRoot (ways.OfVariable f x)))
+      (λ same. (let frames : g ≡ f = loc_frames same in let objects : y ≡ x = loc_objects same in inr (λ j. OfVariable (frames j) (objects j))))
+      (λ ne. (inl (ap (λ z. get_or z o no_slot) (sym (put_other s g y f x (λ a. ne (ap OfRoot a)) slots m.variables)) ∙ e)))
 
   pub only_stored : (k : Place) (ws : List machine.Word) (m : Memory) → OnlyAt (λ f x. k.base ≡ OfVariable f x) m (stored s k ws m)
   only_stored k ws m =

@@ -30,6 +30,7 @@ use Rattle.soundness.proofs.Paths.{facts_next}
 use Rattle.soundness.proofs.Points.{path_of}
 use Rattle.soundness.proofs.Inherited.{AreGlobal}
 use Rattle.soundness.proofs.Waits.{drop_none}
+use Rattle.soundness.proofs.Parted.{by_either}
 
 pub any_has : {A : Type 0} (test : A → Bool) (xs : List A) (x : A) → Has xs x → test x ≡ true → list_any test xs ≡ true
 any_has test [] x has e = absurd has
@@ -183,13 +184,9 @@ module _ (program : FlowProgram) (effects : Effects) (are : AreEffects program e
 
   pub added_after : (more : List Act) (facts : List Fact) (f : Fact) → Has (after more facts) f → Has facts f ⊎ ((a : Act) × Has more a × Has (adds a) f)
   added_after [] facts f has = inl has
-  added_after (a ∷ more) facts f has = elim (added_after more (effect a facts) f has) [
-    | inr later ↦ inr (later.0, inr later.1, later.2)
-    | inl now ↦ elim (Has-append_cases (filter (λ g. not (removes a g)) facts) (adds a) f now) [
-      | inl old ↦ inl (Has-filter (λ g. not (removes a g)) facts f old).0
-      | inr new ↦ inr (a, inl refl, new)
-    ]
-  ]
+  added_after (a ∷ more) facts f has = by_either (added_after more (effect a facts) f has)
+      (λ now. (by_either (Has-append_cases (filter (λ g. not (removes a g)) facts) (adds a) f now) (λ old. (inl (Has-filter (λ g. not (removes a g)) facts f old).0)) (λ new. (inr (a, inl refl, new)))))
+      (λ later. (inr (later.0, inr later.1, later.2)))
 
   pub called_add_none : (p : Pos) (i : Instruction) (a : Placed) (f : Fact) → Has (called_acts program effects p i) a → Has (adds a.act) f → ⊥
   called_add_none p (Call callee actuals result) a f has new =
@@ -218,15 +215,13 @@ module _ (program : FlowProgram) (effects : Effects) (are : AreEffects program e
       → (q : FlowPoint) × (a : Placed) × Has sub.points q × Has q.acts a × Has (adds a.act) f
   fact_added sub [] f has = absurd has
   fact_added sub (n ∷ before) f has =
-      elim (added_after (acts_at (path_points program effects sub) n) (facts_before (path_points program effects sub) before) f
-      (subst (λ z. Has z f) (facts_next (path_points program effects sub) before n) has)) [
-        | inl old ↦ fact_added sub before f old
-        | inr new ↦ (
-            let from = Has-map_from (λ (q : Placed). q.act) (path_point (path_points program effects sub) n).acts new.0 new.1 in
-            let point = path_acts sub.points n from.0 from.1 in
-            let adds_it : Has (adds (from.0).act) f = subst (λ z. Has (adds z) f) (sym from.2) new.2 in
-            elim (Has-append_cases (point.0).acts (called_acts program effects (point.0).pos (point.0).instr) from.0 point.2) [
-              | inl own ↦ (point.0, from.0, point.1, own, adds_it)
-              | inr called ↦ absurd (called_add_none (point.0).pos (point.0).instr from.0 f called adds_it)
-            ])
-      ]
+      by_either (added_after (acts_at (path_points program effects sub) n) (facts_before (path_points program effects sub) before) f
+      (subst (λ z. Has z f) (facts_next (path_points program effects sub) before n) has))
+      (λ old. (fact_added sub before f old))
+      (λ new. (
+      let from = Has-map_from (λ (q : Placed). q.act) (path_point (path_points program effects sub) n).acts new.0 new.1 in
+      let point = path_acts sub.points n from.0 from.1 in
+      let adds_it : Has (adds (from.0).act) f = subst (λ z. Has (adds z) f) (sym from.2) new.2 in
+      by_either (Has-append_cases (point.0).acts (called_acts program effects (point.0).pos (point.0).instr) from.0 point.2)
+      (λ own. (point.0, from.0, point.1, own, adds_it))
+      (λ called. (absurd (called_add_none (point.0).pos (point.0).instr from.0 f called adds_it)))))

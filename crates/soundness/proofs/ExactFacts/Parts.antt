@@ -14,26 +14,26 @@ use Rattle.soundness.proofs.OwnedWays.Locations.{both_true}
 use Rattle.machine.specs.Words.{no_component, words_before, offsets}
 use Rattle.soundness.specs.PartOffsets.Parts.{type_in, offset_in, has_part, owns_one, is_leaf, sels_along, IsSettled}
 use Rattle.soundness.proofs.PartOffsets.Leaves.{InNumbered}
+use Rattle.soundness.proofs.Parted.{by_either}
 
 numbered_from : (f : ℕ → List (List Sel)) (cs : List Part) (i : ℕ) (x : List Sel) → Has (numbered i f cs) x → InNumbered f cs i x
 numbered_from f [] i x h = absurd h
-numbered_from f (c ∷ rest) i x h = elim (Has-append_cases (map (λ q. Field i ∷ q) (f c.of)) (numbered (i + 1) f rest) x h) [
-  | inl here ↦ (
-      let found = Has-map_from (λ q. Field i ∷ q) (f c.of) x here in
-      let same : i ≡ i + 0 = omega arith in
-      record { index = 0; rest = found.0; less = omega arith; has = found.1; is = sym found.2 ∙ ap (λ n. Field n ∷ found.0) same })
-  | inr more ↦ (
-      let found = numbered_from f rest (i + 1) x more in
-      let less = found.less in
-      let same : i + 1 + found.index ≡ i + suc found.index = omega arith in
-      record {
-        index = suc found.index;
-        rest = found.rest;
-        less = omega (arith, less);
-        has = found.has;
-        is = found.is ∙ ap (λ n. Field n ∷ found.rest) same;
-      })
-]
+numbered_from f (c ∷ rest) i x h = by_either (Has-append_cases (map (λ q. Field i ∷ q) (f c.of)) (numbered (i + 1) f rest) x h)
+    (λ here. (
+    let found = Has-map_from (λ q. Field i ∷ q) (f c.of) x here in
+    let same : i ≡ i + 0 = omega arith in
+    record { index = 0; rest = found.0; less = omega arith; has = found.1; is = sym found.2 ∙ ap (λ n. Field n ∷ found.0) same }))
+    (λ more. (
+    let found = numbered_from f rest (i + 1) x more in
+    let less = found.less in
+    let same : i + 1 + found.index ≡ i + suc found.index = omega arith in
+    record {
+      index = suc found.index;
+      rest = found.rest;
+      less = omega (arith, less);
+      has = found.has;
+      is = found.is ∙ ap (λ n. Field n ∷ found.rest) same;
+    }))
 
 module _ (f : ℕ → List (List Sel)) where
   from_own : (s : Shape) → ((of : ℕ) → s ≡ shape.Same of → ⊥) → Has (parts_of f s) [] → owns_one s ≡ true

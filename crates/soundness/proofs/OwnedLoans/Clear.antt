@@ -21,6 +21,7 @@ use Rattle.machine.specs.place_names.Rules.{forbidden_if, moved_or_borrowed, mov
 use Rattle.soundness.specs.OwnedWays.Ways.{Allows}
 use Rattle.soundness.specs.OwnedLoans.Views.{AreClear}
 use Rattle.soundness.proofs.Constructors.{is_moved_fact, is_observed_loan}
+use Rattle.soundness.proofs.Parted.{by_either}
 
 -- a test that succeeds forbids
 pub refused : (b : Bool) (r : Rule) (m : Name) (f : Fact) → b ≡ true → forbidden_if b r m f ≡ None → ⊥
@@ -75,36 +76,25 @@ module _ (observer : ℕ → Bool) (facts : List Fact) (clear : AreClear observe
 
   pub clear_move : (m : Name) (parts : List (List Sel)) → observer m.root ≡ false → Allows facts (Move m parts) → AreClear observer (effect (Move m parts) facts)
   clear_move m parts plain allowed = record {
-    moved = λ l h n k a b over. elim (before_or_new (Move m parts) facts (Lent l h k) b) [
-      | inr new ↦ absurd (no_loan m parts l h k new)
-      | inl lent ↦ elim (before_or_new (Move m parts) facts (Moved n) a) [
-        | inl old ↦ clear.moved l h n k old lent over
-        | inr new ↦ (let found = moved_name m parts (Moved n) new in
-            let is = moved_is n (extend m found.0) found.1 in
-            refused (moved_or_lent m (Lent l h k)) O4 m (Lent l h k) (overlaps_whole m k found.0 (subst (λ z. overlaps z k ≡ true) is over))
-            (allowed (Lent l h k) lent))
-      ]
-    ];
-    lent = λ b h n k x y. elim (before_or_new (Move m parts) facts (Lent Borrowed b n) x) [
-      | inr new ↦ absurd (no_loan m parts Borrowed b n new)
-      | inl one ↦ elim (before_or_new (Move m parts) facts (Lent Borrowed h k) y) [
-        | inr new ↦ absurd (no_loan m parts Borrowed h k new)
-        | inl two ↦ clear.lent b h n k one two
-      ]
-    ];
-    seen = λ b h n k x y. elim (before_or_new (Move m parts) facts (Lent Borrowed b n) x) [
-      | inr new ↦ absurd (no_loan m parts Borrowed b n new)
-      | inl one ↦ elim (before_or_new (Move m parts) facts (Lent Observed h k) y) [
-        | inr new ↦ absurd (no_loan m parts Observed h k new)
-        | inl two ↦ clear.seen b h n k one two
-      ]
-    ];
-    owned = λ n a. elim (before_or_new (Move m parts) facts (Moved n) a) [
-      | inl old ↦ clear.owned n old
-      | inr new ↦ (let found = moved_name m parts (Moved n) new in
-          let is = moved_is n (extend m found.0) found.1 in
-          ap observer (ap (λ (z : Name). z.root) is) ∙ plain)
-    ];
+    moved = λ l h n k a b over. by_either (before_or_new (Move m parts) facts (Lent l h k) b)
+        (λ lent. (by_either (before_or_new (Move m parts) facts (Moved n) a)
+        (λ old. (clear.moved l h n k old lent over))
+        (λ new. (let found = moved_name m parts (Moved n) new in
+        let is = moved_is n (extend m found.0) found.1 in
+        refused (moved_or_lent m (Lent l h k)) O4 m (Lent l h k) (overlaps_whole m k found.0 (subst (λ z. overlaps z k ≡ true) is over))
+        (allowed (Lent l h k) lent)))))
+        (λ new. (absurd (no_loan m parts l h k new)));
+    lent = λ b h n k x y. by_either (before_or_new (Move m parts) facts (Lent Borrowed b n) x)
+        (λ one. (by_either (before_or_new (Move m parts) facts (Lent Borrowed h k) y) (λ two. (clear.lent b h n k one two)) (λ new. (absurd (no_loan m parts Borrowed h k new)))))
+        (λ new. (absurd (no_loan m parts Borrowed b n new)));
+    seen = λ b h n k x y. by_either (before_or_new (Move m parts) facts (Lent Borrowed b n) x)
+        (λ one. (by_either (before_or_new (Move m parts) facts (Lent Observed h k) y) (λ two. (clear.seen b h n k one two)) (λ new. (absurd (no_loan m parts Observed h k new)))))
+        (λ new. (absurd (no_loan m parts Borrowed b n new)));
+    owned = λ n a. by_either (before_or_new (Move m parts) facts (Moved n) a)
+        (λ old. (clear.owned n old))
+        (λ new. (let found = moved_name m parts (Moved n) new in
+        let is = moved_is n (extend m found.0) found.1 in
+        ap observer (ap (λ (z : Name). z.root) is) ∙ plain));
   }
 
   not_moved : (l : Loan) (b : ℕ) (m n : Name) → Lent l b m ≡ Moved n → ⊥
@@ -115,105 +105,65 @@ module _ (observer : ℕ → Bool) (facts : List Fact) (clear : AreClear observe
 
   pub clear_borrow : (x : ℕ) (m : Name) → Allows facts (Borrow x m) → AreClear observer (effect (Borrow x m) facts)
   clear_borrow x m allowed = record {
-    moved = λ l h n k a b over. elim (before_or_new (Borrow x m) facts (Moved n) a) [
-      | inr new ↦ elim new [ inl is ↦ absurd (not_moved Borrowed x m n is) | inr none ↦ absurd none ]
-      | inl old ↦ elim (before_or_new (Borrow x m) facts (Lent l h k) b) [
-        | inl lent ↦ clear.moved l h n k old lent over
-        | inr new ↦ elim new [
-          | inl is ↦ (let same = the_loan Borrowed l x h m k is in
-              refused (moved_or_lent m (Moved n)) O5 m (Moved n) (subst (λ z. overlaps n z ≡ true) (sym same.2) over) (allowed (Moved n) old))
-          | inr none ↦ absurd none
-        ]
-      ]
-    ];
-    lent = λ b h n k one two differ over. elim (before_or_new (Borrow x m) facts (Lent Borrowed b n) one) [
-      | inl old ↦ elim (before_or_new (Borrow x m) facts (Lent Borrowed h k) two) [
-        | inl lent ↦ clear.lent b h n k old lent differ over
-        | inr new ↦ elim new [
-          | inl is ↦ (let same = the_loan Borrowed Borrowed x h m k is in
-              refused (moved_or_lent m (Lent Borrowed b n)) O5 m (Lent Borrowed b n) (subst (λ z. overlaps n z ≡ true) (sym same.2) over)
-              (allowed (Lent Borrowed b n) old))
-          | inr none ↦ absurd none
-        ]
-      ]
-      | inr new ↦ elim new [
-        | inr none ↦ absurd none
-        | inl is ↦ (let same = the_loan Borrowed Borrowed x b m n is in elim (before_or_new (Borrow x m) facts (Lent Borrowed h k) two) [
-          | inl lent ↦ refused (moved_or_lent m (Lent Borrowed h k)) O5 m (Lent Borrowed h k)
-              (overlaps-sym k m ∙ subst (λ z. overlaps z k ≡ true) (sym same.2) over) (allowed (Lent Borrowed h k) lent)
-          | inr more ↦ elim more [
-            | inl also ↦ (let other = the_loan Borrowed Borrowed x h m k also in absurd (differ (sym same.1 ∙ other.1)))
-            | inr none ↦ absurd none
-          ]
-        ])
-      ]
-    ];
-    seen = λ b h n k one two over. elim (before_or_new (Borrow x m) facts (Lent Observed h k) two) [
-      | inr new ↦ elim new [
-        | inl is ↦ absurd (borrowed_observed (the_loan Borrowed Observed x h m k is).0)
-        | inr none ↦ absurd none
-      ]
-      | inl lent ↦ elim (before_or_new (Borrow x m) facts (Lent Borrowed b n) one) [
-        | inl old ↦ clear.seen b h n k old lent over
-        | inr new ↦ elim new [
-          | inr none ↦ absurd none
-          | inl is ↦ (let same = the_loan Borrowed Borrowed x b m n is in
-              refused (moved_or_lent m (Lent Observed h k)) O5 m (Lent Observed h k)
-              (overlaps-sym k m ∙ subst (λ z. overlaps z k ≡ true) (sym same.2) over) (allowed (Lent Observed h k) lent))
-        ]
-      ]
-    ];
-    owned = λ n a. elim (before_or_new (Borrow x m) facts (Moved n) a) [
-      | inl old ↦ clear.owned n old
-      | inr new ↦ elim new [ inl is ↦ absurd (not_moved Borrowed x m n is) | inr none ↦ absurd none ]
-    ];
+    moved = λ l h n k a b over. by_either (before_or_new (Borrow x m) facts (Moved n) a)
+        (λ old. (by_either (before_or_new (Borrow x m) facts (Lent l h k) b)
+        (λ lent. (clear.moved l h n k old lent over))
+        (λ new. (by_either new
+        (λ is. (let same = the_loan Borrowed l x h m k is in
+        refused (moved_or_lent m (Moved n)) O5 m (Moved n) (subst (λ z. overlaps n z ≡ true) (sym same.2) over) (allowed (Moved n) old)))
+        (λ none. (absurd none))))))
+        (λ new. (by_either new (λ is. (absurd (not_moved Borrowed x m n is))) (λ none. (absurd none))));
+    lent = λ b h n k one two differ over. by_either (before_or_new (Borrow x m) facts (Lent Borrowed b n) one)
+        (λ old. (by_either (before_or_new (Borrow x m) facts (Lent Borrowed h k) two)
+        (λ lent. (clear.lent b h n k old lent differ over))
+        (λ new. (by_either new
+        (λ is. (let same = the_loan Borrowed Borrowed x h m k is in
+        refused (moved_or_lent m (Lent Borrowed b n)) O5 m (Lent Borrowed b n) (subst (λ z. overlaps n z ≡ true) (sym same.2) over)
+        (allowed (Lent Borrowed b n) old)))
+        (λ none. (absurd none))))))
+        (λ new. (by_either new
+        (λ is. (let same = the_loan Borrowed Borrowed x b m n is in by_either (before_or_new (Borrow x m) facts (Lent Borrowed h k) two)
+        (λ lent. (refused (moved_or_lent m (Lent Borrowed h k)) O5 m (Lent Borrowed h k)
+        (overlaps-sym k m ∙ subst (λ z. overlaps z k ≡ true) (sym same.2) over) (allowed (Lent Borrowed h k) lent)))
+        (λ more. (by_either more (λ also. (let other = the_loan Borrowed Borrowed x h m k also in absurd (differ (sym same.1 ∙ other.1)))) (λ none. (absurd none))))))
+        (λ none. (absurd none))));
+    seen = λ b h n k one two over. by_either (before_or_new (Borrow x m) facts (Lent Observed h k) two)
+        (λ lent. (by_either (before_or_new (Borrow x m) facts (Lent Borrowed b n) one)
+        (λ old. (clear.seen b h n k old lent over))
+        (λ new. (by_either new
+        (λ is. (let same = the_loan Borrowed Borrowed x b m n is in
+        refused (moved_or_lent m (Lent Observed h k)) O5 m (Lent Observed h k)
+        (overlaps-sym k m ∙ subst (λ z. overlaps z k ≡ true) (sym same.2) over) (allowed (Lent Observed h k) lent)))
+        (λ none. (absurd none))))))
+        (λ new. (by_either new (λ is. (absurd (borrowed_observed (the_loan Borrowed Observed x h m k is).0))) (λ none. (absurd none))));
+    owned = λ n a. by_either (before_or_new (Borrow x m) facts (Moved n) a) (λ old. (clear.owned n old)) (λ new. (by_either new (λ is. (absurd (not_moved Borrowed x m n is))) (λ none. (absurd none))));
   }
 
   clear_new_observe : (x : ℕ) (m : Name) → Allows facts (Observe x m false) → AreClear observer (effect (Observe x m false) facts)
   clear_new_observe x m allowed = record {
-    moved = λ l h n k a b over. elim (before_or_new (Observe x m false) facts (Moved n) a) [
-      | inr new ↦ elim new [ inl is ↦ absurd (not_moved Observed x m n is) | inr none ↦ absurd none ]
-      | inl old ↦ elim (before_or_new (Observe x m false) facts (Lent l h k) b) [
-        | inl lent ↦ clear.moved l h n k old lent over
-        | inr new ↦ elim new [
-          | inl is ↦ (let same = the_loan Observed l x h m k is in
-              refused (moved_or_borrowed m (Moved n)) O6 m (Moved n) (subst (λ z. overlaps n z ≡ true) (sym same.2) over) (allowed (Moved n) old))
-          | inr none ↦ absurd none
-        ]
-      ]
-    ];
-    lent = λ b h n k one two. elim (before_or_new (Observe x m false) facts (Lent Borrowed b n) one) [
-      | inr new ↦ elim new [
-        | inl is ↦ absurd (borrowed_observed (sym (the_loan Observed Borrowed x b m n is).0))
-        | inr none ↦ absurd none
-      ]
-      | inl old ↦ elim (before_or_new (Observe x m false) facts (Lent Borrowed h k) two) [
-        | inl lent ↦ clear.lent b h n k old lent
-        | inr new ↦ elim new [
-          | inl is ↦ absurd (borrowed_observed (sym (the_loan Observed Borrowed x h m k is).0))
-          | inr none ↦ absurd none
-        ]
-      ]
-    ];
-    seen = λ b h n k one two over. elim (before_or_new (Observe x m false) facts (Lent Borrowed b n) one) [
-      | inr new ↦ elim new [
-        | inl is ↦ absurd (borrowed_observed (sym (the_loan Observed Borrowed x b m n is).0))
-        | inr none ↦ absurd none
-      ]
-      | inl old ↦ elim (before_or_new (Observe x m false) facts (Lent Observed h k) two) [
-        | inl lent ↦ clear.seen b h n k old lent over
-        | inr new ↦ elim new [
-          | inl is ↦ (let same = the_loan Observed Observed x h m k is in
-              refused (moved_or_borrowed m (Lent Borrowed b n)) O6 m (Lent Borrowed b n) (subst (λ z. overlaps n z ≡ true) (sym same.2) over)
-              (allowed (Lent Borrowed b n) old))
-          | inr none ↦ absurd none
-        ]
-      ]
-    ];
-    owned = λ n a. elim (before_or_new (Observe x m false) facts (Moved n) a) [
-      | inl old ↦ clear.owned n old
-      | inr new ↦ elim new [ inl is ↦ absurd (not_moved Observed x m n is) | inr none ↦ absurd none ]
-    ];
+    moved = λ l h n k a b over. by_either (before_or_new (Observe x m false) facts (Moved n) a)
+        (λ old. (by_either (before_or_new (Observe x m false) facts (Lent l h k) b)
+        (λ lent. (clear.moved l h n k old lent over))
+        (λ new. (by_either new
+        (λ is. (let same = the_loan Observed l x h m k is in
+        refused (moved_or_borrowed m (Moved n)) O6 m (Moved n) (subst (λ z. overlaps n z ≡ true) (sym same.2) over) (allowed (Moved n) old)))
+        (λ none. (absurd none))))))
+        (λ new. (by_either new (λ is. (absurd (not_moved Observed x m n is))) (λ none. (absurd none))));
+    lent = λ b h n k one two. by_either (before_or_new (Observe x m false) facts (Lent Borrowed b n) one)
+        (λ old. (by_either (before_or_new (Observe x m false) facts (Lent Borrowed h k) two)
+        (λ lent. (clear.lent b h n k old lent))
+        (λ new. (by_either new (λ is. (absurd (borrowed_observed (sym (the_loan Observed Borrowed x h m k is).0)))) (λ none. (absurd none))))))
+        (λ new. (by_either new (λ is. (absurd (borrowed_observed (sym (the_loan Observed Borrowed x b m n is).0)))) (λ none. (absurd none))));
+    seen = λ b h n k one two over. by_either (before_or_new (Observe x m false) facts (Lent Borrowed b n) one)
+        (λ old. (by_either (before_or_new (Observe x m false) facts (Lent Observed h k) two)
+        (λ lent. (clear.seen b h n k old lent over))
+        (λ new. (by_either new
+        (λ is. (let same = the_loan Observed Observed x h m k is in
+        refused (moved_or_borrowed m (Lent Borrowed b n)) O6 m (Lent Borrowed b n) (subst (λ z. overlaps n z ≡ true) (sym same.2) over)
+        (allowed (Lent Borrowed b n) old)))
+        (λ none. (absurd none))))))
+        (λ new. (by_either new (λ is. (absurd (borrowed_observed (sym (the_loan Observed Borrowed x b m n is).0)))) (λ none. (absurd none))));
+    owned = λ n a. by_either (before_or_new (Observe x m false) facts (Moved n) a) (λ old. (clear.owned n old)) (λ new. (by_either new (λ is. (absurd (not_moved Observed x m n is))) (λ none. (absurd none))));
   }
 
   pub clear_observe : (x : ℕ) (m : Name) (seen : Bool) → Allows facts (Observe x m seen) → AreClear observer (effect (Observe x m seen) facts)

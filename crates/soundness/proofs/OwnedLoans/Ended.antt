@@ -23,6 +23,7 @@ use Rattle.soundness.proofs.OwnedLoans.Ways.{base_on, home_or_foreign, lifts, li
 use Rattle.soundness.proofs.OwnedLoans.Clear.{before_or_new, clear_same}
 use Rattle.soundness.proofs.OwnedLoans.Moves.{view_rooted, reached, view_on, parts_on, moved_parts, as_sound, all_known}
 use Rattle.soundness.proofs.Constructors.{is_empty_word}
+use Rattle.soundness.proofs.Parted.{by_either}
 
 along_base : (w : Way) (p : List Step) → base_of (along w p) ≡ base_of w
 along_base w [] = refl
@@ -183,65 +184,60 @@ module _ (home : ℕ → ℕ) (observer : ℕ → Bool) (other : Around home) (v
       let sound = dropped home (Aside x facts) s t x borrower (filter (belongs_to x) facts) (split s facts x viewed leaves.none leaves.roots leaves.unlent) d in record {
         owned = sound.owned;
         covered = sound.covered;
-        known = λ w l n r h. elim (sound.known w l n r h) [
-          | inl moved ↦ absurd (all_end facts x borrower (Moved (name_of w)) moved.1)
-          | inr both ↦ elim both.0 [
-            | inr o ↦ inr o
-            | inl (inr away) ↦ inl (inr away)
-            | inl (inl moved) ↦ elim both.1 [
+        known = λ w l n r h. by_either (sound.known w l n r h)
+            (λ moved. (absurd (all_end facts x borrower (Moved (name_of w)) moved.1)))
+            (λ both. (elim both.0 [
               | inr o ↦ inr o
-              | inl off ↦ inl (inl (
-                moved.0,
-                (
-                  moved.1.0,
-                  kept_fact act facts (Moved (name_of moved.0)) moved.1.1
-                      (is_false (number_of moved.0 == x) (λ e. off (
-                      let same = eqb-true (number_of moved.0) x e in
-                      ap base_of (sym moved.2
-                      ∙ stands_itself moved.0 moved.1.0 (ap v.way same ∙ leaves.none) (moved_parts home observer other v s facts viewed moved.0 moved.1.1))
-                      ∙ named_base home moved.0 moved.1.0 ∙ ap variable same))),
-                ),
-                moved.2,
-              ))
-            ]
-          ]
-        ];
+              | inl (inr away) ↦ inl (inr away)
+              | inl (inl moved) ↦ by_either both.1
+                  (λ off. (inl (inl (
+                    moved.0,
+                    (
+                      moved.1.0,
+                      kept_fact act facts (Moved (name_of moved.0)) moved.1.1
+                          (is_false (number_of moved.0 == x) (λ e. off (
+                          let same = eqb-true (number_of moved.0) x e in
+                          ap base_of (sym moved.2
+                          ∙ stands_itself moved.0 moved.1.0 (ap v.way same ∙ leaves.none) (moved_parts home observer other v s facts viewed moved.0 moved.1.1))
+                          ∙ named_base home moved.0 moved.1.0 ∙ ap variable same))),
+                    ),
+                    moved.2,
+                  ))))
+                  (λ o. (inr o))
+            ]));
         clear = clear_same observer facts viewed.clear act refl;
         views = (
           λ y w has. (let view = viewed.views.0 y w has in
               let root = view_rooted home observer other v s facts viewed.views y w has in
               let reaches = drop_reaches s t (OfVariable (home x) x) viewed.owned d w (OfCell (v.cell y)) (reached home observer other v s facts y w view)
-              (λ e. (let same = same_frame root.0 (home x) root.1 x (sym root.2 ∙ e) in elim root.3 [
-                | inl own ↦ leaves.roots y w has own (number_base w root.0 root.1 root.2 ∙ same.1)
-                | inr foreign ↦ (
-                    let here = same_frame foreign.0 (home x) foreign.1 x (sym foreign.2 ∙ e) in
-                    foreign.3 (here.0 ∙ ap home (sym here.1)))
-              ])) in
-              elim view [
-                | inr passed ↦ inr (record { begins = passed.begins; given = passed.given; alone = passed.alone; reaches = reaches })
-                | inl own ↦ inl (record {
-                  named = own.named;
-                  leads = own.leads;
-                  begins = own.begins;
-                  deep = own.deep;
-                  plain = own.plain;
-                  older = own.older;
-                  lent = own_loan y w has own.named (observer y) refl own.lent;
-                  reaches = reaches;
-                })
-              ]),
+              (λ e. (let same = same_frame root.0 (home x) root.1 x (sym root.2 ∙ e) in by_either root.3
+              (λ own. (leaves.roots y w has own (number_base w root.0 root.1 root.2 ∙ same.1)))
+              (λ foreign. (
+              let here = same_frame foreign.0 (home x) foreign.1 x (sym foreign.2 ∙ e) in
+              foreign.3 (here.0 ∙ ap home (sym here.1)))))) in
+              by_either view
+              (λ own. (inl (record {
+                named = own.named;
+                leads = own.leads;
+                begins = own.begins;
+                deep = own.deep;
+                plain = own.plain;
+                older = own.older;
+                lent = own_loan y w has own.named (observer y) refl own.lent;
+                reaches = reaches;
+              })))
+              (λ passed. (inr (record { begins = passed.begins; given = passed.given; alone = passed.alone; reaches = reaches })))),
           parts_on home observer other v s t viewed.views.1
               (λ y p w has reach.
               drop_reaches s t (OfVariable (home x) x) viewed.owned d w (OfCell (v.part_cell y p)) reach
-              (λ e. elim (home_or_foreign home w (viewed.views.1 y p w has).begins) [
-                | inr foreign ↦ (
-                    let here = same_frame foreign.0 (home x) foreign.1 x (sym foreign.2 ∙ e) in
-                    foreign.3 (here.0 ∙ ap home (sym here.1)))
-                | inl named ↦ (
-                    let (l, (k, at_home, under, lent), changed) = viewed.shown.1 y p w has named in
-                    let bases = sym (named_base home k at_home) ∙ sym (longer k w under).base ∙ e in
-                    leaves.unlent l (name_of k) lent (same_variable (home (number_of k)) (home x) (number_of k) x bases))
-              ])),
+              (λ e. by_either (home_or_foreign home w (viewed.views.1 y p w has).begins)
+              (λ named. (
+              let (l, (k, at_home, under, lent), changed) = viewed.shown.1 y p w has named in
+              let bases = sym (named_base home k at_home) ∙ sym (longer k w under).base ∙ e in
+              leaves.unlent l (name_of k) lent (same_variable (home (number_of k)) (home x) (number_of k) x bases)))
+              (λ foreign. (
+              let here = same_frame foreign.0 (home x) foreign.1 x (sym foreign.2 ∙ e) in
+              foreign.3 (here.0 ∙ ap home (sym here.1)))))),
         );
         whole = viewed.whole;
         whole_away = viewed.whole_away;
@@ -258,12 +254,11 @@ module _ (home : ℕ → ℕ) (observer : ℕ → Bool) (other : Around home) (v
         far = λ w n keeps. (let root = other.begins w n keeps in
             drop_reaches s t (OfVariable (home x) x) viewed.owned d w (OfCell n) (viewed.far w n keeps) (λ e. (
             let same = same_frame root.0 (home x) root.1 x (sym root.2 ∙ e) in
-            elim root.3 [
-              | inl away ↦ away (same.0 ∙ ap home (sym same.1))
-              | inr (l, (k, named, under, lent)) ↦ (
-                  let bases = sym (named_base home k named) ∙ sym (longer k w under).base ∙ e in
-                  leaves.unlent l (name_of k) lent (same_variable (home (number_of k)) (home x) (number_of k) x bases))
-            ])));
+            by_either root.3
+            (λ away. (away (same.0 ∙ ap home (sym same.1))))
+            (λ (l, (k, named, under, lent)). (
+            let bases = sym (named_base home k named) ∙ sym (longer k w under).base ∙ e in
+            leaves.unlent l (name_of k) lent (same_variable (home (number_of k)) (home x) (number_of k) x bases))))));
         bare = λ w l p bare q c held. viewed.bare w l p bare q c (drop_held s t (OfVariable (home x) x) d (part l (q ++ p)) c held);
       }
     where

@@ -12,6 +12,7 @@ use Rattle.soundness.proofs.OwnedWays.Named.{longer}
 use Rattle.soundness.proofs.OwnedWays.Dropped.{named_base}
 use Rattle.soundness.specs.OwnedLoans.Views.{on, Views, expand, IsView, IsForeign, IsPassed, AreViews, AreShared, Lifted}
 use Rattle.soundness.proofs.OwnedLoans.Ways.{Meet, beginnings, under_on, base_on, meets_on, meets_front, meet_base, home_or_foreign, root_on, on_under, named_on, on_named, expand_on, other_front, lifts, part_root, lifted_root, lifted_way, next_of}
+use Rattle.soundness.proofs.Parted.{by_either}
 
 order : (a b : ℕ) → (a ≡ b) ⊎ ((a < b) ⊎ (b < a))
 order a b = by_less (nat_lt a b) refl
@@ -106,35 +107,33 @@ module _ (home : ℕ → ℕ) (observer : ℕ → Bool) (v : Views) (s : View) (
 
   stands_from : (n : ℕ) (x : Way) → number_of x < n → IsPlain x → IsOwn x ⊎ Held x
   stands_from zero x less plain = absurd (omega arith)
-  stands_from (suc n) x less plain = elim (plain_lifts x plain) [
-    | inl e ↦ inl (record {
-      named = subst (Named home) (sym e) plain.0;
-      most = (let same = ap number_of e in (omega arith));
-      touches = λ k m. inl (subst (λ z. Meet z k) e m);
-    })
-    | inr l ↦ (let root = lifted_root v x l in elim (views.0 l.object l.way l.has) [
-      | inl view ↦ (let on = next x l view plain.0 in
-          let down = on.less (borrowed x l plain) in
-          elim (stands_from n (next_of v x l) (omega arith) on.plain) [
-            | inl own ↦ inl (record {
-              named = subst (Named home) on.same own.named;
-              most = (let same = ap number_of on.same in let most = own.most in (omega arith));
-              touches = λ k m. elim (own.touches k (subst (λ z. Meet z k) (sym on.same) m)) [
-                | inl above ↦ inr (l.object, (l.way, l.has, borrowed x l plain, view), meets_on (v.loan l.object) (next_of v x l) k on.loan above)
-                | inr loan ↦ inr loan
-              ];
-            })
-            | inr held ↦ inr (record {
-              object = held.object;
-              way = held.way;
-              has = held.has;
-              passed = held.passed;
-              plain = held.plain;
-              under = subst (Under held.way) on.same held.under;
-              most = (let most = held.most in (omega arith));
-            })
-          ])
-      | inr passed ↦ inr (record {
+  stands_from (suc n) x less plain = by_either (plain_lifts x plain)
+      (λ e. (inl (record {
+        named = subst (Named home) (sym e) plain.0;
+        most = (let same = ap number_of e in (omega arith));
+        touches = λ k m. inl (subst (λ z. Meet z k) e m);
+      })))
+      (λ l. (let root = lifted_root v x l in by_either (views.0 l.object l.way l.has)
+      (λ view. (let on = next x l view plain.0 in
+      let down = on.less (borrowed x l plain) in
+      by_either (stands_from n (next_of v x l) (omega arith) on.plain)
+      (λ own. (inl (record {
+        named = subst (Named home) on.same own.named;
+        most = (let same = ap number_of on.same in let most = own.most in (omega arith));
+        touches = λ k m. by_either (own.touches k (subst (λ z. Meet z k) (sym on.same) m))
+            (λ above. (inr (l.object, (l.way, l.has, borrowed x l plain, view), meets_on (v.loan l.object) (next_of v x l) k on.loan above)))
+            (λ loan. (inr loan));
+      })))
+      (λ held. (inr (record {
+        object = held.object;
+        way = held.way;
+        has = held.has;
+        passed = held.passed;
+        plain = held.plain;
+        under = subst (Under held.way) on.same held.under;
+        most = (let most = held.most in (omega arith));
+      })))))
+      (λ passed. (inr (record {
         object = l.object;
         way = l.way;
         has = l.has;
@@ -142,9 +141,7 @@ module _ (home : ℕ → ℕ) (observer : ℕ → Bool) (v : Views) (s : View) (
         plain = borrowed x l plain;
         under = subst (Under l.way) (sym (lifted_way v x l)) (on_under l.way l.rest);
         most = (omega arith);
-      })
-    ])
-  ]
+      })))))
 
   pub stands : (x : Way) → IsPlain x → IsOwn x ⊎ Held x
   stands x plain = stands_from (suc (number_of x)) x (omega arith) plain
@@ -456,59 +453,53 @@ module _ (home : ℕ → ℕ) (observer : ℕ → Bool) (v : Views) (s : View) (
     meeting_from (suc n) x y less px py u =
         let root = (longer (expand v x) (expand v y) u).root in
         let base = (longer (expand v x) (expand v y) u).base in
-        elim (order (number_of x) (number_of y)) [
-          | inl same ↦ inl (one_root x y px py same u)
-          | inr z ↦ elim z [
-            | inl more ↦ elim (plain_lifts y py) [
-              | inl e ↦ (let (k, there, is, under) = off_itself x y px py.0 more (sym base ∙ ap base_of e) (sym root ∙ ap number_of e) in
-                  inr (inr (inr (inr (inr (record {
-                    place = k;
-                    named = there;
-                    lent_it = is;
-                    meets = inl (inr (subst (Under k) e (under_on k (expand v x) (expand v y) under u)));
-                    through = under;
-                  }))))))
-              | inr l ↦ (let at = lifted_root v y l in elim (views.0 l.object l.way l.has) [
-                | inl view ↦ (let on = next y l view py.0 in
-                    let down = on.less (borrowed y l py) in
-                    lift_lower x y l view py more (meeting_from n x (next_of v y l) (omega arith) px on.plain (subst (Under (expand v x)) (sym on.same) u)))
-                | inr passed ↦ (let (loan, changed, c) = off_younger x px l.object l.way l.has passed (omega arith)
-                    (beginnings (expand v x) l.way (expand v y) u (lifted_under y l)) in
-                    inr (inr (inr (inr (inl (record {
-                      place = c.place;
-                      named = c.named;
-                      lent_it = subst (λ z. lent z (name_of c.place)) (changed (borrowed y l py)) c.lent_it;
-                      meets = c.meets;
-                      through = under_on c.place l.way (expand v y) c.under (lifted_under y l);
-                    }))))))
-              ])
-            ]
-            | inr more ↦ elim (plain_lifts x px) [
-              | inl e ↦ (let (k, there, is, under) = off_itself y x py px.0 more (base ∙ ap base_of e) (root ∙ ap number_of e) in
-                  inr (inr (inr (inr (inl (record {
-                    place = k;
-                    named = there;
-                    lent_it = is;
-                    meets = inl (beginnings x k (expand v y) (subst (λ z. Under z (expand v y)) e u) under);
-                    through = under;
-                  }))))))
-              | inr l ↦ (let at = lifted_root v x l in elim (views.0 l.object l.way l.has) [
-                | inl view ↦ (let on = next x l view px.0 in
-                    let down = on.less (borrowed x l px) in
-                    lift_upper x y l view px more (meeting_from n (next_of v x l) y (omega arith) on.plain py (subst (λ z. Under z (expand v y)) (sym on.same) u)))
-                | inr passed ↦ (let (loan, changed, c) = off_younger y py l.object l.way l.has passed (omega arith)
-                    (inr (under_on l.way (expand v x) (expand v y) (lifted_under x l) u)) in
-                    inr (inr (inr (inr (inr (record {
-                      place = c.place;
-                      named = c.named;
-                      lent_it = subst (λ z. lent z (name_of c.place)) (changed (borrowed x l px)) c.lent_it;
-                      meets = c.meets;
-                      through = under_on c.place l.way (expand v x) c.under (lifted_under x l);
-                    }))))))
-              ])
-            ]
-          ]
-        ]
+        by_either (order (number_of x) (number_of y))
+        (λ same. (inl (one_root x y px py same u)))
+        (λ z. (by_either z
+        (λ more. (by_either (plain_lifts y py)
+        (λ e. (let (k, there, is, under) = off_itself x y px py.0 more (sym base ∙ ap base_of e) (sym root ∙ ap number_of e) in
+        inr (inr (inr (inr (inr (record {
+          place = k;
+          named = there;
+          lent_it = is;
+          meets = inl (inr (subst (Under k) e (under_on k (expand v x) (expand v y) under u)));
+          through = under;
+        })))))))
+        (λ l. (let at = lifted_root v y l in by_either (views.0 l.object l.way l.has)
+        (λ view. (let on = next y l view py.0 in
+        let down = on.less (borrowed y l py) in
+        lift_lower x y l view py more (meeting_from n x (next_of v y l) (omega arith) px on.plain (subst (Under (expand v x)) (sym on.same) u))))
+        (λ passed. (let (loan, changed, c) = off_younger x px l.object l.way l.has passed (omega arith)
+        (beginnings (expand v x) l.way (expand v y) u (lifted_under y l)) in
+        inr (inr (inr (inr (inl (record {
+          place = c.place;
+          named = c.named;
+          lent_it = subst (λ z. lent z (name_of c.place)) (changed (borrowed y l py)) c.lent_it;
+          meets = c.meets;
+          through = under_on c.place l.way (expand v y) c.under (lifted_under y l);
+        })))))))))))
+        (λ more. (by_either (plain_lifts x px)
+        (λ e. (let (k, there, is, under) = off_itself y x py px.0 more (base ∙ ap base_of e) (root ∙ ap number_of e) in
+        inr (inr (inr (inr (inl (record {
+          place = k;
+          named = there;
+          lent_it = is;
+          meets = inl (beginnings x k (expand v y) (subst (λ z. Under z (expand v y)) e u) under);
+          through = under;
+        })))))))
+        (λ l. (let at = lifted_root v x l in by_either (views.0 l.object l.way l.has)
+        (λ view. (let on = next x l view px.0 in
+        let down = on.less (borrowed x l px) in
+        lift_upper x y l view px more (meeting_from n (next_of v x l) y (omega arith) on.plain py (subst (λ z. Under z (expand v y)) (sym on.same) u))))
+        (λ passed. (let (loan, changed, c) = off_younger y py l.object l.way l.has passed (omega arith)
+        (inr (under_on l.way (expand v x) (expand v y) (lifted_under x l) u)) in
+        inr (inr (inr (inr (inr (record {
+          place = c.place;
+          named = c.named;
+          lent_it = subst (λ z. lent z (name_of c.place)) (changed (borrowed x l px)) c.lent_it;
+          meets = c.meets;
+          through = under_on c.place l.way (expand v x) c.under (lifted_under x l);
+        })))))))))))))
       where
         lifted_under : (x : Way) (l : Lifted v x) → Under l.way (expand v x)
         lifted_under x l = subst (Under l.way) (sym (lifted_way v x l)) (on_under l.way l.rest)

@@ -29,6 +29,7 @@ use Rattle.soundness.proofs.OwnedLoans.Clear.{nothing_new, clear_move, clear_sam
 use Rattle.soundness.proofs.OwnedLoans.Safe.{off_view, off_parts}
 use Rattle.soundness.proofs.OwnedLoans.Others.{off_kept, off_bare, clean_away}
 use Rattle.soundness.proofs.OwnedLoans.Allowed.{LoansStay, loan_kept, move_unlent, move_unmoved, write_unlent}
+use Rattle.soundness.proofs.Parted.{by_either}
 
 -- ---- names and what they stand for
 
@@ -47,28 +48,23 @@ IsPlace v k = (r : Root) → k ≡ Object r → way_at v r ≡ None
 pub expand_under : (v : Views) (k w : Way) → IsPlace v k → ((p : List Step) → v.part_way (number_of w) p ≡ None) → Under k w → Under (expand v k) (expand v w)
 expand_under v k (Object r) place none u = ap (expand v) u
 expand_under v k (Lost n) place none u = ap (expand v) u
-expand_under v k (Into w i) place none u = elim u [ inl e ↦ inl (ap (expand v) e) | inr u ↦ inr (expand_under v k w place none u) ]
-expand_under v k (All (Object r)) place none u = elim u [
-  | inl e ↦ subst (λ z. Under z (expand v (All (Object r)))) (sym (ap (expand v) e)) (self (expand v (All (Object r))))
-  | inr e ↦ (let none = place r e in
-      subst (λ z. Under (expand v k) (expand_root z r)) (sym none) (inr (ap (expand v) e)))
-]
+expand_under v k (Into w i) place none u = by_either u (λ e. (inl (ap (expand v) e))) (λ u. (inr (expand_under v k w place none u)))
+expand_under v k (All (Object r)) place none u = by_either u
+    (λ e. (subst (λ z. Under z (expand v (All (Object r)))) (sym (ap (expand v) e)) (self (expand v (All (Object r))))))
+    (λ e. (let none = place r e in
+    subst (λ z. Under (expand v k) (expand_root z r)) (sym none) (inr (ap (expand v) e))))
   where
     self : (w : Way) → Under w w
     self (Object r) = refl
     self (Lost n) = refl
     self (Into w i) = inl refl
     self (All w) = inl refl
-expand_under v k (All (Lost n)) place none u = elim u [ inl e ↦ inl (ap (expand v) e) | inr u ↦ inr (ap (expand v) u) ]
-expand_under v k (All (Into w i)) place none u = elim u [
-  | inl e ↦ subst (λ z. Under z (expand v (All (Into w i)))) (sym (ap (expand v) e)) (under_itself (expand v (All (Into w i))))
-  | inr u ↦ subst (λ z. Under (expand v k) (expand_part z (expand v (Into w i)))) (sym (part_none v (Into w i) (inr none)))
-      (inr (expand_under v k (Into w i) place none u))
-]
-expand_under v k (All (All w)) place none u = elim u [
-  | inl e ↦ inl (ap (expand v) e)
-  | inr u ↦ inr (expand_under v k (All w) place none u)
-]
+expand_under v k (All (Lost n)) place none u = by_either u (λ e. (inl (ap (expand v) e))) (λ u. (inr (ap (expand v) u)))
+expand_under v k (All (Into w i)) place none u = by_either u
+    (λ e. (subst (λ z. Under z (expand v (All (Into w i)))) (sym (ap (expand v) e)) (under_itself (expand v (All (Into w i))))))
+    (λ u. (subst (λ z. Under (expand v k) (expand_part z (expand v (Into w i)))) (sym (part_none v (Into w i) (inr none)))
+    (inr (expand_under v k (Into w i) place none u))))
+expand_under v k (All (All w)) place none u = by_either u (λ e. (inl (ap (expand v) e))) (λ u. (inr (expand_under v k (All w) place none u)))
 
 abbrev hand_of : Way → ℕ
 hand_of (Object (OfVariable f x)) = 0
@@ -81,8 +77,8 @@ hand_of (All w) = hand_of w
 hand_under : (f v : Way) → InHand f → Under f v → InHand v
 hand_under f (Object r) n u = subst InHand u n
 hand_under f (Lost x) n u = subst InHand u n
-hand_under f (Into w i) n u = elim u [ inl e ↦ subst InHand e n | inr u ↦ hand_under f w n u ]
-hand_under f (All w) n u = elim u [ inl e ↦ subst InHand e n | inr u ↦ hand_under f w n u ]
+hand_under f (Into w i) n u = by_either u (λ e. (subst InHand e n)) (λ u. (hand_under f w n u))
+hand_under f (All w) n u = by_either u (λ e. (subst InHand e n)) (λ u. (hand_under f w n u))
 
 same_reaches : (s t : View) → IsSame s t → (w : Way) (l : Loc) → Reaches s w l → Reaches t w l
 same_reaches s t e (Object r) l h = h
@@ -197,23 +193,21 @@ module _ (home : ℕ → ℕ) (observer : ℕ → Bool) (other : Around home) (v
 
   -- its way leads there
   pub rests_there : (s : View) (facts : List Fact) → Viewed home observer other v s facts → (w : Way) (l : Loc) (p : List Step) → other.bare w l p → Reaches s w l
-  rests_there s facts viewed w l p bare = elim (other.rests w l p bare) [
-    | inl (n, kept, is) ↦ subst (Reaches s w) (sym is) (viewed.far w n kept)
-    | inr (r, is, at) ↦ subst (λ z. Reaches s z l) (sym is) at
-  ]
+  rests_there s facts viewed w l p bare = by_either (other.rests w l p bare)
+      (λ (n, kept, is). (subst (Reaches s w) (sym is) (viewed.far w n kept)))
+      (λ (r, is, at). (subst (λ z. Reaches s z l) (sym is) at))
 
   -- what is bare gets no number
   pub bare_on : (s t : View) (k : Way) (from to : Loc) (facts : List Fact) → Viewed home observer other v s facts → IsMove s t from to → Reaches s k to → OffBare k
       → (w : Way) (l : Loc) (p : List Step) → other.bare w l p → (q : List Step) (c : ℕ) → t.word (part l (q ++ p)) ≡ Held c → ⊥
   bare_on s t k from to facts viewed move target off w l p bare q c held =
-      elim (owner_before s t from to move (part l (q ++ p)) c held) [
-        | inr stays ↦ viewed.bare w l p bare q c stays.word
-        | inl (r, is, before) ↦ (
-            let reach = rests_there s facts viewed w l p bare in
-            let same = one_way s viewed.owned (along w (q ++ p)) (along k r) (part l (q ++ p)) (reaches_along s w l (q ++ p) reach)
-            (subst (Reaches s (along k r)) (sym is) (reaches_along s k to r target)) in
-            off w l p bare q (subst (Under k) (sym same) (under_along k k r (under_itself k))))
-      ]
+      by_either (owner_before s t from to move (part l (q ++ p)) c held)
+      (λ (r, is, before). (
+      let reach = rests_there s facts viewed w l p bare in
+      let same = one_way s viewed.owned (along w (q ++ p)) (along k r) (part l (q ++ p)) (reaches_along s w l (q ++ p) reach)
+      (subst (Reaches s (along k r)) (sym is) (reaches_along s k to r target)) in
+      off w l p bare q (subst (Under k) (sym same) (under_along k k r (under_itself k)))))
+      (λ stays. (viewed.bare w l p bare q c stays.word))
 
   pub moved_on : (s t : View) (f k : Way) (from to : Loc) (facts facts' : List Fact) → Given s t f k from to
       → Viewed home observer other v s facts → IsRooted f
@@ -226,7 +220,7 @@ module _ (home : ℕ → ℕ) (observer : ℕ → Bool) (other : Around home) (v
     owned = owned_after s t f k from to given;
     covered = covered_after s t f k from to given viewed.covered;
     known = known_after s t f k from to (ExcusedBy home v other facts) (ExcusedBy home v other facts') given viewed.known rooted clean
-        (λ w moved apart. elim moved [ inl away ↦ inl (elim away [ inl m ↦ inl (stays w m apart) | inr o ↦ inr o ]) | inr o ↦ inr o ]) adds;
+        (λ w moved apart. by_either moved (λ away. (inl (by_either away (λ m. (inl (stays w m apart))) (λ o. (inr o))))) (λ o. (inr o))) adds;
     clear = clear;
     views = (
       λ x w has. (let view = viewed.views.0 x w has in

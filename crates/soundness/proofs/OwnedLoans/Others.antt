@@ -15,6 +15,7 @@ use Rattle.soundness.specs.OwnedLoans.Views.{Around, Views, expand, HasLoan, IsT
 use Rattle.soundness.proofs.OwnedLoans.Ways.{Meet, in_part_way, lifted_way, flip, meets_on, meets_front, beginnings, under_on, on_under, meet_overlaps, next_of}
 use Rattle.soundness.proofs.OwnedLoans.Meeting.{IsPlain, stands, next, IsOwn}
 use Rattle.soundness.proofs.OwnedLoans.Safe.{under_shorter, past_front, Open, OpenWhole, Unlent, Unborrowed, Unmoved, lent_fact, lent_itself, only_itself, seen_lent, open_way, open_above, seen_above, seen_way, clean_below, seen_below, part_above, part_below}
+use Rattle.soundness.proofs.Parted.{by_either}
 
 -- what goes past a way goes past what begins it
 pub under_past : (a b w : Way) → Under a b → Past b w → Past a w
@@ -129,38 +130,31 @@ module _ (home : ℕ → ℕ) (observer : ℕ → Bool) (other : Around home) (v
   -- what is changed lies above no way of others
   pub off_kept : (u w : Way) (n : ℕ) → IsName u → Unlent facts u → other.kept w n → Past (expand v u) w → ⊥
   off_kept u w n name unlent keeps past =
-      elim (stands home observer v s facts viewed.views u name) [
-        | inr held ↦ viewed.past held.object held.way held.has held.passed.given held.plain w n keeps
-            (under_past held.way (expand v u) w held.under past)
-        | inl own ↦ (let root = other.begins w n keeps in elim root.3 [
-          | inl away ↦ (
-              let base = sym root.2 ∙ (longer (expand v u) w (past_under (expand v u) w past)).base ∙ named_base home (expand v u) own.named in
-              let same = root_variable root.0 root.1 (home (number_of (expand v u))) (number_of (expand v u)) base in
-              away (same.0 ∙ ap home (sym same.1)))
-          | inr (l, (k, named, under, lent)) ↦
-              own_unmet l k u lent own (unlent l (number_of k) (name_of k)) (beginnings (expand v u) k w (past_under (expand v u) w past) under)
-        ])
-      ]
+      by_either (stands home observer v s facts viewed.views u name)
+      (λ own. (let root = other.begins w n keeps in by_either root.3
+      (λ away. (
+      let base = sym root.2 ∙ (longer (expand v u) w (past_under (expand v u) w past)).base ∙ named_base home (expand v u) own.named in
+      let same = root_variable root.0 root.1 (home (number_of (expand v u))) (number_of (expand v u)) base in
+      away (same.0 ∙ ap home (sym same.1))))
+      (λ (l, (k, named, under, lent)). (own_unmet l k u lent own (unlent l (number_of k) (name_of k)) (beginnings (expand v u) k w (past_under (expand v u) w past) under)))))
+      (λ held. (viewed.past held.object held.way held.has held.passed.given held.plain w n keeps
+      (under_past held.way (expand v u) w held.under past)))
 
   -- nor is it above what is bare, or below it
   pub off_bare : (u w : Way) (l : Loc) (p q : List Step) → IsName u → Unlent facts u → other.bare w l p → Under (expand v u) (along w (q ++ p)) → ⊥
   off_bare u w l p q name unlent bare under =
       let z : Way = along w (q ++ p) in
-      elim (stands home observer v s facts viewed.views u name) [
-        | inr held ↦ elim (other.emptied w l p bare q) [
-          | inl gone ↦ viewed.whole held.object held.way z held.has (inr held.passed.given) gone (inr (under_on held.way (expand v u) z held.under under))
-          | inr away ↦ viewed.whole_away held.object held.way z held.has held.passed.given away (inr (under_on held.way (expand v u) z held.under under))
-        ]
-        | inl own ↦ (let root = other.bares w l p bare in elim root.3 [
-          | inl away ↦ (
-              let base = sym root.2 ∙ sym (longer w z (under_along w w (q ++ p) (under_itself w))).base ∙ (longer (expand v u) z under).base ∙ named_base home (expand v u) own.named in
-              let same = root_variable root.0 root.1 (home (number_of (expand v u))) (number_of (expand v u)) base in
-              away (same.0 ∙ ap home (sym same.1)))
-          | inr (loan, (k, named, below, lent)) ↦
-              own_unmet loan k u lent own (unlent loan (number_of k) (name_of k))
-              (beginnings (expand v u) k z under (subst (Under k) (along_more w p q) (under_along k (along w p) q below)))
-        ])
-      ]
+      by_either (stands home observer v s facts viewed.views u name)
+      (λ own. (let root = other.bares w l p bare in by_either root.3
+      (λ away. (
+      let base = sym root.2 ∙ sym (longer w z (under_along w w (q ++ p) (under_itself w))).base ∙ (longer (expand v u) z under).base ∙ named_base home (expand v u) own.named in
+      let same = root_variable root.0 root.1 (home (number_of (expand v u))) (number_of (expand v u)) base in
+      away (same.0 ∙ ap home (sym same.1))))
+      (λ (loan, (k, named, below, lent)). (own_unmet loan k u lent own (unlent loan (number_of k) (name_of k))
+      (beginnings (expand v u) k z under (subst (Under k) (along_more w p q) (under_along k (along w p) q below)))))))
+      (λ held. (by_either (other.emptied w l p bare q)
+      (λ gone. (viewed.whole held.object held.way z held.has (inr held.passed.given) gone (inr (under_on held.way (expand v u) z held.under under))))
+      (λ away. (viewed.whole_away held.object held.way z held.has held.passed.given away (inr (under_on held.way (expand v u) z held.under under))))))
 
   -- nothing that is away lies above a name that is open
   pub open_away : (u w : Way) → IsName u → Open facts u → Past w (expand v u) → IsAway home v other facts w → ⊥

@@ -19,24 +19,19 @@ use Rattle.soundness.specs.OwnedLoans.Views.{Around, Views, expand, expand_root,
 use Rattle.soundness.proofs.OwnedLoans.Clear.{overlaps_whole}
 use Rattle.soundness.proofs.OwnedLoans.Ways.{Meet, flip, lifted_way, on_under, meets_on, meets_front, beginnings, under_on, meet_overlaps, stands_alone, named_base_of, home_or_foreign, next_of, in_part_way}
 use Rattle.soundness.proofs.OwnedLoans.Meeting.{IsPlain, no_part, next, not_foreign, off_seen, off_part, stands, Lends, MeetsLoan, Beside, Both, Lone, Meeting, meeting}
+use Rattle.soundness.proofs.Parted.{by_either}
 
 -- what begins a way and isn't the way has a shorter name
 pub under_shorter : (t w : Way) → Under t w → (t ≡ w) ⊎ (length (sels_of t) < length (sels_of w))
 under_shorter t (Object r) u = inl u
 under_shorter t (Lost n) u = inl u
-under_shorter t (Into w i) u = elim u [
-  | inl e ↦ inl e
-  | inr u ↦ inr (shorter t w (sel_of i ∷ []) (length-append (sels_of w) (sel_of i ∷ [])) u)
-]
+under_shorter t (Into w i) u = by_either u (λ e. (inl e)) (λ u. (inr (shorter t w (sel_of i ∷ []) (length-append (sels_of w) (sel_of i ∷ [])) u)))
   where
     shorter : (t w : Way) (q : List _) → length (sels_of w ++ q) ≡ length (sels_of w) + 1 → Under t w → length (sels_of t) < length (sels_of w ++ q)
     shorter t w q more u =
         let l = longer t w u in
         let front : length (sels_of w) ≡ length (sels_of t) + length l.rest = ap length l.sels ∙ length-append (sels_of t) l.rest in (omega arith)
-under_shorter t (All w) u = elim u [
-  | inl e ↦ inl e
-  | inr u ↦ inr (shorter t w (Deref ∷ []) (length-append (sels_of w) (Deref ∷ [])) u)
-]
+under_shorter t (All w) u = by_either u (λ e. (inl e)) (λ u. (inr (shorter t w (Deref ∷ []) (length-append (sels_of w) (Deref ∷ [])) u)))
   where
     shorter : (t w : Way) (q : List _) → length (sels_of w ++ q) ≡ length (sels_of w) + 1 → Under t w → length (sels_of t) < length (sels_of w ++ q)
     shorter t w q more u =
@@ -45,13 +40,9 @@ under_shorter t (All w) u = elim u [
 
 -- what a way begins with doesn't go past it
 pub past_front : (k w : Way) → Under k w → Past w k → ⊥
-past_front k w under past = elim (under_shorter w k (past_under w k past)) [
-  | inl e ↦ not_past_itself w k e past
-  | inr less ↦ elim (under_shorter k w under) [
-    | inl e ↦ not_past_itself w k (sym e) past
-    | inr other ↦ absurd (omega (arith, less, other))
-  ]
-]
+past_front k w under past = by_either (under_shorter w k (past_under w k past))
+    (λ e. (not_past_itself w k e past))
+    (λ less. (by_either (under_shorter k w under) (λ e. (not_past_itself w k (sym e) past)) (λ other. (absurd (omega (arith, less, other))))))
   where
     not_past_itself : (w k : Way) → w ≡ k → Past w k → ⊥
     not_past_itself w k e past = not_past w [] (subst (Past w) (sym e) past)
@@ -204,51 +195,32 @@ module _ (home : ℕ → ℕ) (observer : ℕ → Bool) (other : Around home) (v
   pub open_way : (u w : Way) → IsName u → Open facts u → Past w (expand v u) → IsMovedBy home v facts w → ⊥
   open_way u w plain free past (m, moved, same) =
       let upper : Under (expand v m) (expand v u) = subst (λ z. Under z (expand v u)) (sym same) (past_under w (expand v u) past) in
-      elim (met m u (moved_plain m moved) plain upper) [
-        | inl under ↦ elim (under_shorter m u under) [
-          | inl e ↦ not_past w [] (subst (Past w) (sym (ap (expand v) e) ∙ same) past)
-          | inr less ↦ free.moved (name_of m) moved.1 (under_leads m u under) less
-        ]
-        | inr more ↦ elim more [
-          | inl a ↦ elim (under_shorter a.name u a.begins) [
-            | inl e ↦ not_past w [] (subst (Past w) (sym (ap (expand v) e) ∙ a.same ∙ same) past)
-            | inr less ↦ (let loan = under_on (v.loan a.object) a.name u a.loan a.begins in
-                let short = not_longer (v.loan a.object) a.name a.loan in
-                free.lent a.object (name_of (v.loan a.object)) (loan_of a.object a.lends) (under_leads (v.loan a.object) u loan) (omega arith))
-          ]
-          | inr more ↦ elim more [
-            | inl b ↦ not_beside m u moved b
-            | inr loans ↦ elim loans [
-              | inl c ↦ no_both c
-              | inr lone ↦ elim lone [ inl l ↦ moved_lone m u moved l | inr l ↦ lone_open u m w free l same past ]
-            ]
-          ]
-        ]
-      ]
+      by_either (met m u (moved_plain m moved) plain upper)
+      (λ under. (by_either (under_shorter m u under) (λ e. (not_past w [] (subst (Past w) (sym (ap (expand v) e) ∙ same) past))) (λ less. (free.moved (name_of m) moved.1 (under_leads m u under) less))))
+      (λ more. (by_either more
+      (λ a. (by_either (under_shorter a.name u a.begins)
+      (λ e. (not_past w [] (subst (Past w) (sym (ap (expand v) e) ∙ a.same ∙ same) past)))
+      (λ less. (let loan = under_on (v.loan a.object) a.name u a.loan a.begins in
+      let short = not_longer (v.loan a.object) a.name a.loan in
+      free.lent a.object (name_of (v.loan a.object)) (loan_of a.object a.lends) (under_leads (v.loan a.object) u loan) (omega arith)))))
+      (λ more. (by_either more
+      (λ b. (not_beside m u moved b))
+      (λ loans. (by_either loans (λ c. (no_both c)) (λ lone. (by_either lone (λ l. (moved_lone m u moved l)) (λ l. (lone_open u m w free l same past))))))))))
     where
       not_longer : (t w : Way) → Under t w → length (sels_of t) ≤ length (sels_of w)
-      not_longer t w u = elim (under_shorter t w u) [
-        | inl e ↦ (let same = ap (λ z. length (sels_of z)) e in (omega arith))
-        | inr less ↦ (omega arith)
-      ]
+      not_longer t w u = by_either (under_shorter t w u) (λ e. (let same = ap (λ z. length (sels_of z)) e in (omega arith))) (λ less. (omega arith))
 
   -- nor is what begins the name, if that is open as a whole
   pub open_above : (u w : Way) → IsName u → OpenWhole facts u → Under w (expand v u) → IsMovedBy home v facts w → ⊥
   open_above u w plain free above (m, moved, same) =
-      elim (met m u (moved_plain m moved) plain (subst (λ z. Under z (expand v u)) (sym same) above)) [
-        | inl under ↦ free.moved (name_of m) moved.1 (under_leads m u under)
-        | inr more ↦ elim more [
-          | inl a ↦ free.lent a.object (name_of (v.loan a.object)) (loan_of a.object a.lends)
-              (under_leads (v.loan a.object) u (under_on (v.loan a.object) a.name u a.loan a.begins))
-          | inr more ↦ elim more [
-            | inl b ↦ not_beside m u moved b
-            | inr loans ↦ elim loans [
-              | inl c ↦ no_both c
-              | inr lone ↦ elim lone [ inl l ↦ moved_lone m u moved l | inr l ↦ lone_whole u m w free l same above ]
-            ]
-          ]
-        ]
-      ]
+      by_either (met m u (moved_plain m moved) plain (subst (λ z. Under z (expand v u)) (sym same) above))
+      (λ under. (free.moved (name_of m) moved.1 (under_leads m u under)))
+      (λ more. (by_either more
+      (λ a. (free.lent a.object (name_of (v.loan a.object)) (loan_of a.object a.lends)
+      (under_leads (v.loan a.object) u (under_on (v.loan a.object) a.name u a.loan a.begins))))
+      (λ more. (by_either more
+      (λ b. (not_beside m u moved b))
+      (λ loans. (by_either loans (λ c. (no_both c)) (λ lone. (by_either lone (λ l. (moved_lone m u moved l)) (λ l. (lone_whole u m w free l same above))))))))))
 
   -- so it isn't the name itself
   pub open_itself : (u : Way) → IsName u → OpenWhole facts u → IsMovedBy home v facts (expand v u) → ⊥
@@ -272,31 +244,25 @@ module _ (home : ℕ → ℕ) (observer : ℕ → Bool) (other : Around home) (v
       let loan = subst (λ z. HasLoan observer z l.object facts (name_of (v.loan l.object))) is view.lent in
       let upper : Under (expand v m) (expand v y) =
       subst (Under (expand v m)) (sym on.same) (subst (λ z. Under z (expand v u)) (sym same) above) in
-      elim (met m y (moved_plain m moved) on.plain upper) [
-        | inl under ↦ unmoved_loan m Observed loan.0 (v.loan l.object) moved loan.1 (beginnings m (v.loan l.object) y under on.loan)
-        | inr more ↦ elim more [
-          | inl a ↦ viewed.clear.seen a.object loan.0 (name_of (v.loan a.object)) (name_of (v.loan l.object)) (loan_of a.object a.lends) loan.1
-              (meet_overlaps (v.loan a.object) (v.loan l.object)
-              (beginnings (v.loan a.object) (v.loan l.object) y (under_on (v.loan a.object) a.name y a.loan a.begins) on.loan))
-          | inr more ↦ elim more [
-            | inl b ↦ not_beside m y moved b
-            | inr loans ↦ elim loans [
-              | inl c ↦ no_both c
-              | inr lone ↦ elim lone [
-                | inl k ↦ moved_lone m y moved k
-                | inr k ↦ seen_lent k.place k.lent_it loan.0 (v.loan l.object) loan.1 (meets_on (v.loan l.object) y k.place on.loan (lone_meets y m k))
-              ]
-            ]
-          ]
-        ]
-      ]
+      by_either (met m y (moved_plain m moved) on.plain upper)
+      (λ under. (unmoved_loan m Observed loan.0 (v.loan l.object) moved loan.1 (beginnings m (v.loan l.object) y under on.loan)))
+      (λ more. (by_either more
+      (λ a. (viewed.clear.seen a.object loan.0 (name_of (v.loan a.object)) (name_of (v.loan l.object)) (loan_of a.object a.lends) loan.1
+      (meet_overlaps (v.loan a.object) (v.loan l.object)
+      (beginnings (v.loan a.object) (v.loan l.object) y (under_on (v.loan a.object) a.name y a.loan a.begins) on.loan))))
+      (λ more. (by_either more
+      (λ b. (not_beside m y moved b))
+      (λ loans. (by_either loans
+      (λ c. (no_both c))
+      (λ lone. (by_either lone
+      (λ k. (moved_lone m y moved k))
+      (λ k. (seen_lent k.place k.lent_it loan.0 (v.loan l.object) loan.1 (meets_on (v.loan l.object) y k.place on.loan (lone_meets y m k))))))))))))
 
   -- nothing that was moved begins a name through an observer, or lies above it
   pub seen_above : (u w : Way) (l : Lifted v u) → Named home u → observer l.object ≡ true → Under w (expand v u) → IsMovedBy home v facts w → ⊥
-  seen_above u w l named is above moved = elim (viewed.views.0 l.object l.way l.has) [
-    | inl view ↦ seen_way_own u w l view named is above moved
-    | inr passed ↦ foreign_off u w l passed is (inl above) moved
-  ]
+  seen_above u w l named is above moved = by_either (viewed.views.0 l.object l.way l.has)
+      (λ view. (seen_way_own u w l view named is above moved))
+      (λ passed. (foreign_off u w l passed is (inl above) moved))
 
   pub seen_way : (u w : Way) (l : Lifted v u) → Named home u → observer l.object ≡ true → Past w (expand v u) → IsMovedBy home v facts w → ⊥
   seen_way u w l named is past moved = seen_above u w l named is (past_under w (expand v u) past) moved
@@ -304,23 +270,18 @@ module _ (home : ℕ → ℕ) (observer : ℕ → Bool) (other : Around home) (v
   -- what a moved name stands for lies in what a name that overlaps nothing borrowed does only if the one begins the other
   pub begun_name : (u m : Way) → IsName u → Unborrowed facts u → IsMoved home facts m → Under (expand v u) (expand v m) → Under u m
   begun_name u m plain unborrowed moved under =
-      elim (met u m plain (moved_plain m moved) under) [
-        | inl below ↦ below
-        | inr more ↦ elim more [
-          | inl a ↦ absurd (unmoved_loan m Borrowed a.object (v.loan a.object) moved (loan_of a.object a.lends)
-              (inr (under_on (v.loan a.object) a.name m a.loan a.begins)))
-          | inr more ↦ elim more [
-            | inl b ↦ absurd (unborrowed b.object (name_of (v.loan b.object)) (loan_of b.object b.lends) (meet_overlaps (v.loan b.object) u (flip u (v.loan b.object) b.meets)))
-            | inr loans ↦ elim loans [
-              | inl c ↦ absurd (no_both c)
-              | inr lone ↦ elim lone [
-                | inl l ↦ absurd (unborrowed (number_of l.place) (name_of l.place) (lent_fact Borrowed l.place l.lent_it) (meet_overlaps l.place u (flip u l.place (lone_meets u m l))))
-                | inr l ↦ absurd (moved_lone m u moved l)
-              ]
-            ]
-          ]
-        ]
-      ]
+      by_either (met u m plain (moved_plain m moved) under)
+      (λ below. (below))
+      (λ more. (by_either more
+      (λ a. (absurd (unmoved_loan m Borrowed a.object (v.loan a.object) moved (loan_of a.object a.lends)
+      (inr (under_on (v.loan a.object) a.name m a.loan a.begins)))))
+      (λ more. (by_either more
+      (λ b. (absurd (unborrowed b.object (name_of (v.loan b.object)) (loan_of b.object b.lends) (meet_overlaps (v.loan b.object) u (flip u (v.loan b.object) b.meets)))))
+      (λ loans. (by_either loans
+      (λ c. (absurd (no_both c)))
+      (λ lone. (by_either lone
+      (λ l. (absurd (unborrowed (number_of l.place) (name_of l.place) (lent_fact Borrowed l.place l.lent_it) (meet_overlaps l.place u (flip u l.place (lone_meets u m l))))))
+      (λ l. (absurd (moved_lone m u moved l)))))))))))
 
   pub clean_name : (u m : Way) → IsName u → Unborrowed facts u → IsMoved home facts m → (Under u m → ⊥) → Under (expand v u) (expand v m) → ⊥
   clean_name u m plain unborrowed moved off under = off (begun_name u m plain unborrowed moved under)
@@ -337,32 +298,26 @@ module _ (home : ℕ → ℕ) (observer : ℕ → Bool) (other : Around home) (v
       let y : Way = next_of v u l in
       let loan = subst (λ z. HasLoan observer z l.object facts (name_of (v.loan l.object))) is view.lent in
       let lower : Under (expand v y) (expand v m) = subst (λ z. Under z (expand v m)) (sym on.same) (subst (Under (expand v u)) (sym same) under) in
-      elim (met y m on.plain (moved_plain m moved) lower) [
-        | inl below ↦ unmoved_loan m Observed loan.0 (v.loan l.object) moved loan.1 (inr (under_on (v.loan l.object) y m on.loan below))
-        | inr more ↦ elim more [
-          | inl a ↦ unmoved_loan m Borrowed a.object (v.loan a.object) moved (loan_of a.object a.lends)
-              (inr (under_on (v.loan a.object) a.name m a.loan a.begins))
-          | inr more ↦ elim more [
-            | inl b ↦ viewed.clear.seen b.object loan.0 (name_of (v.loan b.object)) (name_of (v.loan l.object)) (loan_of b.object b.lends) loan.1
-                (meet_overlaps (v.loan b.object) (v.loan l.object)
-                (flip (v.loan l.object) (v.loan b.object) (meets_on (v.loan l.object) y (v.loan b.object) on.loan b.meets)))
-            | inr loans ↦ elim loans [
-              | inl c ↦ no_both c
-              | inr lone ↦ elim lone [
-                | inl k ↦ seen_lent k.place k.lent_it loan.0 (v.loan l.object) loan.1 (meets_on (v.loan l.object) y k.place on.loan (lone_meets y m k))
-                | inr k ↦ moved_lone m y moved k
-              ]
-            ]
-          ]
-        ]
-      ]
+      by_either (met y m on.plain (moved_plain m moved) lower)
+      (λ below. (unmoved_loan m Observed loan.0 (v.loan l.object) moved loan.1 (inr (under_on (v.loan l.object) y m on.loan below))))
+      (λ more. (by_either more
+      (λ a. (unmoved_loan m Borrowed a.object (v.loan a.object) moved (loan_of a.object a.lends)
+      (inr (under_on (v.loan a.object) a.name m a.loan a.begins))))
+      (λ more. (by_either more
+      (λ b. (viewed.clear.seen b.object loan.0 (name_of (v.loan b.object)) (name_of (v.loan l.object)) (loan_of b.object b.lends) loan.1
+      (meet_overlaps (v.loan b.object) (v.loan l.object)
+      (flip (v.loan l.object) (v.loan b.object) (meets_on (v.loan l.object) y (v.loan b.object) on.loan b.meets)))))
+      (λ loans. (by_either loans
+      (λ c. (no_both c))
+      (λ lone. (by_either lone
+      (λ k. (seen_lent k.place k.lent_it loan.0 (v.loan l.object) loan.1 (meets_on (v.loan l.object) y k.place on.loan (lone_meets y m k))))
+      (λ k. (moved_lone m y moved k))))))))))
 
   -- nothing that was moved is, or lies in, what a name through an observer stands for
   pub seen_below : (u w : Way) (l : Lifted v u) → Named home u → observer l.object ≡ true → Under (expand v u) w → IsMovedBy home v facts w → ⊥
-  seen_below u w l named is under moved = elim (viewed.views.0 l.object l.way l.has) [
-    | inl view ↦ seen_below_own u w l view named is under moved
-    | inr passed ↦ foreign_off u w l passed is (inr under) moved
-  ]
+  seen_below u w l named is under moved = by_either (viewed.views.0 l.object l.way l.has)
+      (λ view. (seen_below_own u w l view named is under moved))
+      (λ passed. (foreign_off u w l passed is (inr under) moved))
 
   -- nor does what a part of a formal designates, or what lies above or below it
   part_off : (u w : Way) (l : InPart v u) → Meet w (expand v u) → IsMovedBy home v facts w → ⊥
@@ -463,76 +418,61 @@ module _ (home : ℕ → ℕ) (observer : ℕ → Bool) (other : Around home) (v
   off_borrower u x w plain unlent has is past =
       let leads : expand v (own_name x) ≡ w = ap (λ z. expand_root z (OfVariable (home x) x)) has in
       let under : Under (expand v u) (expand v (own_name x)) = subst (Under (expand v u)) (sym leads) (past_under (expand v u) w past) in
-      elim (met u (own_name x) plain (refl, is) under) [
-        | inl above ↦ not_own u above refl
-        | inr more ↦ elim more [
-          | inl a ↦ not_own a.name a.begins a.same
-          | inr more ↦ elim more [
-            | inl b ↦ unlent Borrowed b.object (name_of (v.loan b.object)) (loan_of b.object b.lends)
-                (meet_overlaps (v.loan b.object) u (flip u (v.loan b.object) b.meets))
-            | inr loans ↦ elim loans [
-              | inl c ↦ no_both c
-              | inr lone ↦ elim lone [
-                | inl l ↦ unlent Borrowed (number_of l.place) (name_of l.place) (lent_fact Borrowed l.place l.lent_it)
-                    (meet_overlaps l.place u (flip u l.place (lone_meets u (own_name x) l)))
-                | inr l ↦ no_place x w has Borrowed l.place l.lent_it (elim (lone_meets (own_name x) u l) [
-                  | inl a ↦ (longer (own_name x) l.place a).root
-                  | inr a ↦ sym (longer l.place (own_name x) a).root
-                ])
-              ]
-            ]
-          ]
-        ]
-      ]
+      by_either (met u (own_name x) plain (refl, is) under)
+      (λ above. (not_own u above refl))
+      (λ more. (by_either more
+      (λ a. (not_own a.name a.begins a.same))
+      (λ more. (by_either more
+      (λ b. (unlent Borrowed b.object (name_of (v.loan b.object)) (loan_of b.object b.lends)
+      (meet_overlaps (v.loan b.object) u (flip u (v.loan b.object) b.meets))))
+      (λ loans. (by_either loans
+      (λ c. (no_both c))
+      (λ lone. (by_either lone
+      (λ l. (unlent Borrowed (number_of l.place) (name_of l.place) (lent_fact Borrowed l.place l.lent_it)
+      (meet_overlaps l.place u (flip u l.place (lone_meets u (own_name x) l)))))
+      (λ l. (no_place x w has Borrowed l.place l.lent_it (by_either (lone_meets (own_name x) u l) (λ a. ((longer (own_name x) l.place a).root)) (λ a. (sym (longer l.place (own_name x) a).root)))))))))))))
     where
       not_own : (n : Way) → Under n (own_name x) → expand v n ≡ expand v u → ⊥
-      not_own n above same = elim above [
-        | inl e ↦ (
-            let leads : expand v (own_name x) ≡ w = ap (λ z. expand_root z (OfVariable (home x) x)) has in
-            not_past w [] (subst (λ z. Past z w) (sym same ∙ ap (expand v) e ∙ leads) past))
-        | inr e ↦ (
-            let is_object : expand v u ≡ Object (OfVariable (home x) x) = sym same ∙ ap (expand v) e in
-            let long = longer (expand v u) w (past_under (expand v u) w past) in
-            not_itself x w has is (long.base ∙ ap base_of is_object) (long.root ∙ ap number_of is_object))
-      ]
+      not_own n above same = by_either above
+          (λ e. (
+          let leads : expand v (own_name x) ≡ w = ap (λ z. expand_root z (OfVariable (home x) x)) has in
+          not_past w [] (subst (λ z. Past z w) (sym same ∙ ap (expand v) e ∙ leads) past)))
+          (λ e. (
+          let is_object : expand v u ≡ Object (OfVariable (home x) x) = sym same ∙ ap (expand v) e in
+          let long = longer (expand v u) w (past_under (expand v u) w past) in
+          not_itself x w has is (long.base ∙ ap base_of is_object) (long.root ∙ ap number_of is_object)))
 
   off_observer : (u : Way) (x : ℕ) (w : Way) → IsName u → Unlent facts u → IsView home observer v s facts x w → observer x ≡ true → Past (expand v u) w → ⊥
   off_observer u x w plain unlent view is past =
       let loan = subst (λ z. HasLoan observer z x facts (name_of (v.loan x))) is view.lent in
       let under : Under (expand v u) (expand v (v.up x)) = subst (Under (expand v u)) (sym view.leads) (past_under (expand v u) w past) in
-      elim (met u (v.up x) plain (view.named, view.plain) under) [
-        | inl above ↦ unlent Observed loan.0 (name_of (v.loan x)) loan.1
-            (meet_overlaps (v.loan x) u (beginnings (v.loan x) u (v.up x) view.begins above))
-        | inr more ↦ elim more [
-          | inl a ↦ viewed.clear.seen a.object loan.0 (name_of (v.loan a.object)) (name_of (v.loan x)) (loan_of a.object a.lends) loan.1
-              (meet_overlaps (v.loan a.object) (v.loan x)
-              (beginnings (v.loan a.object) (v.loan x) (v.up x) (under_on (v.loan a.object) a.name (v.up x) a.loan a.begins) view.begins))
-          | inr more ↦ elim more [
-            | inl b ↦ unlent Borrowed b.object (name_of (v.loan b.object)) (loan_of b.object b.lends)
-                (meet_overlaps (v.loan b.object) u (flip u (v.loan b.object) b.meets))
-            | inr loans ↦ elim loans [
-              | inl c ↦ no_both c
-              | inr lone ↦ elim lone [
-                | inl l ↦ unlent Borrowed (number_of l.place) (name_of l.place) (lent_fact Borrowed l.place l.lent_it)
-                    (meet_overlaps l.place u (flip u l.place (lone_meets u (v.up x) l)))
-                | inr l ↦ seen_lent l.place l.lent_it loan.0 (v.loan x) loan.1 (meets_on (v.loan x) (v.up x) l.place view.begins (lone_meets (v.up x) u l))
-              ]
-            ]
-          ]
-        ]
-      ]
+      by_either (met u (v.up x) plain (view.named, view.plain) under)
+      (λ above. (unlent Observed loan.0 (name_of (v.loan x)) loan.1
+      (meet_overlaps (v.loan x) u (beginnings (v.loan x) u (v.up x) view.begins above))))
+      (λ more. (by_either more
+      (λ a. (viewed.clear.seen a.object loan.0 (name_of (v.loan a.object)) (name_of (v.loan x)) (loan_of a.object a.lends) loan.1
+      (meet_overlaps (v.loan a.object) (v.loan x)
+      (beginnings (v.loan a.object) (v.loan x) (v.up x) (under_on (v.loan a.object) a.name (v.up x) a.loan a.begins) view.begins))))
+      (λ more. (by_either more
+      (λ b. (unlent Borrowed b.object (name_of (v.loan b.object)) (loan_of b.object b.lends)
+      (meet_overlaps (v.loan b.object) u (flip u (v.loan b.object) b.meets))))
+      (λ loans. (by_either loans
+      (λ c. (no_both c))
+      (λ lone. (by_either lone
+      (λ l. (unlent Borrowed (number_of l.place) (name_of l.place) (lent_fact Borrowed l.place l.lent_it)
+      (meet_overlaps l.place u (flip u l.place (lone_meets u (v.up x) l)))))
+      (λ l. (seen_lent l.place l.lent_it loan.0 (v.loan x) loan.1 (meets_on (v.loan x) (v.up x) l.place view.begins (lone_meets (v.up x) u l))))))))))))
 
   pub off_view : (u : Way) (x : ℕ) (w : Way) → IsName u → Unlent facts u → v.way x ≡ Some w → Past (expand v u) w → ⊥
   off_view u x w plain unlent has past = by_kind (observer x) refl
     where
       by_kind : (b : Bool) → observer x ≡ b → ⊥
-      by_kind true e = elim (viewed.views.0 x w has) [
-        | inl view ↦ off_observer u x w plain unlent view e past
-        | inr passed ↦ (let (loan, changed, c) = off_seen home observer v s facts viewed.views other.lent unviewed viewed.shown u plain x w has passed e
-            (inl (past_under (expand v u) w past)) in
-            unlent loan (number_of c.place) (name_of c.place) (lent_fact loan c.place c.lent_it)
-            (meet_overlaps c.place u (flip u c.place (only_itself loan c.place u c.lent_it c.meets))))
-      ]
+      by_kind true e = by_either (viewed.views.0 x w has)
+          (λ view. (off_observer u x w plain unlent view e past))
+          (λ passed. (let (loan, changed, c) = off_seen home observer v s facts viewed.views other.lent unviewed viewed.shown u plain x w has passed e
+          (inl (past_under (expand v u) w past)) in
+          unlent loan (number_of c.place) (name_of c.place) (lent_fact loan c.place c.lent_it)
+          (meet_overlaps c.place u (flip u c.place (only_itself loan c.place u c.lent_it c.meets)))))
       by_kind false e = off_borrower u x w plain unlent has e past
 
   pub off_parts : (u : Way) (x : ℕ) (p : List Step) (w : Way) → IsName u → Unlent facts u → v.part_way x p ≡ Some w → Past (expand v u) w → ⊥

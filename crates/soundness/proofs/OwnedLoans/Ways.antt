@@ -6,6 +6,7 @@ use Rattle.soundness.specs.OwnedWays.Ways.{Step, Root, OfVariable, OfHand, OfRoo
 use Rattle.soundness.proofs.OwnedWays.Locations.{depth, under_depth, under_itself}
 use Rattle.soundness.proofs.OwnedWays.Named.{longer, under_overlaps, under_front}
 use Rattle.soundness.specs.OwnedLoans.Views.{Go, Part, Down, go, on, Views, expand_root, expand_part, inner_steps, part_from, part_at, way_at, expand, IsObject, IsForeign, Lifted, InPart}
+use Rattle.soundness.proofs.Parted.{by_either}
 
 -- ---- beginnings of ways
 
@@ -13,14 +14,12 @@ use Rattle.soundness.specs.OwnedLoans.Views.{Go, Part, Down, go, on, Views, expa
 pub beginnings : (a b w : Way) → Under a w → Under b w → Under a b ⊎ Under b a
 beginnings a b (Object x) u v = inl (subst (λ z. Under a z) (sym v) u)
 beginnings a b (Lost n) u v = inl (subst (λ z. Under a z) (sym v) u)
-beginnings a b (Into w i) u v = elim v [
-  | inl e ↦ inl (subst (λ z. Under a z) (sym e) u)
-  | inr v ↦ elim u [ inl e ↦ inr (subst (λ z. Under b z) (sym e) (inr v)) | inr u ↦ beginnings a b w u v ]
-]
-beginnings a b (All w) u v = elim v [
-  | inl e ↦ inl (subst (λ z. Under a z) (sym e) u)
-  | inr v ↦ elim u [ inl e ↦ inr (subst (λ z. Under b z) (sym e) (inr v)) | inr u ↦ beginnings a b w u v ]
-]
+beginnings a b (Into w i) u v = by_either v
+    (λ e. (inl (subst (λ z. Under a z) (sym e) u)))
+    (λ v. (by_either u (λ e. (inr (subst (λ z. Under b z) (sym e) (inr v)))) (λ u. (beginnings a b w u v))))
+beginnings a b (All w) u v = by_either v
+    (λ e. (inl (subst (λ z. Under a z) (sym e) u)))
+    (λ v. (by_either u (λ e. (inr (subst (λ z. Under b z) (sym e) (inr v)))) (λ u. (beginnings a b w u v))))
 
 -- One of two ways begins the other.
 abbrev pub Meet : Way → Way → Type 0
@@ -32,12 +31,12 @@ flip a b m = elim m [ inl u ↦ inr u | inr u ↦ inl u ]
 pub under_on : (a b c : Way) → Under a b → Under b c → Under a c
 under_on a b (Object x) u w = subst (Under a) w u
 under_on a b (Lost n) u w = subst (Under a) w u
-under_on a b (Into c i) u w = elim w [ inl e ↦ subst (Under a) e u | inr w ↦ inr (under_on a b c u w) ]
-under_on a b (All c) u w = elim w [ inl e ↦ subst (Under a) e u | inr w ↦ inr (under_on a b c u w) ]
+under_on a b (Into c i) u w = by_either w (λ e. (subst (Under a) e u)) (λ w. (inr (under_on a b c u w)))
+under_on a b (All c) u w = by_either w (λ e. (subst (Under a) e u)) (λ w. (inr (under_on a b c u w)))
 
 -- what begins one way meets what the way meets
 pub meets_on : (a x b : Way) → Under a x → Meet x b → Meet a b
-meets_on a x b u m = elim m [ inl w ↦ inl (under_on a x b u w) | inr w ↦ beginnings a b x u w ]
+meets_on a x b u m = by_either m (λ w. (inl (under_on a x b u w))) (λ w. (beginnings a b x u w))
 
 -- what meets a way meets what begins it
 pub meets_front : (a w z : Way) → Under a w → Meet z w → Meet z a

@@ -17,6 +17,7 @@ use Rattle.machine.specs.place_names.Rules.{Forbidden}
 use Rattle.soundness.specs.OwnedWays.Ways.{Step, OfVariable, OfHand, Loc, OfCell, Way, Object, Lost, Into, All, Gone, View, part, along, Reaches, IsRooted, Under, Owned, IsMove, IsSame, base_of, name_of, Named, IsMoved, Excused, Spares, Allows, Sound}
 use Rattle.soundness.proofs.OwnedWays.Named.{longer, under_overlaps, covered_under}
 use Rattle.soundness.proofs.OwnedWays.Moving.{Given, owned_after, covered_after, known_after}
+use Rattle.soundness.proofs.Parted.{by_either}
 
 -- ---- what rules say
 
@@ -118,8 +119,8 @@ InHand (All w) = InHand w
 hand_under : (f v : Way) → InHand f → Under f v → InHand v
 hand_under f (Object r) n u = subst InHand u n
 hand_under f (Lost x) n u = subst InHand u n
-hand_under f (Into w i) n u = elim u [ inl e ↦ subst InHand e n | inr u ↦ hand_under f w n u ]
-hand_under f (All w) n u = elim u [ inl e ↦ subst InHand e n | inr u ↦ hand_under f w n u ]
+hand_under f (Into w i) n u = by_either u (λ e. (subst InHand e n)) (λ u. (hand_under f w n u))
+hand_under f (All w) n u = by_either u (λ e. (subst InHand e n)) (λ u. (hand_under f w n u))
 
 unnamed : (home : ℕ → ℕ) (w : Way) → InHand w → Named home w → ⊥
 unnamed home (Object (OfVariable f x)) n m = n

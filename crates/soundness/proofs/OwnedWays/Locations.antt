@@ -3,6 +3,7 @@ use Rattle.std.proofs.Common.{◌≡◌, refl, sym, ap, ◌∙◌, subst, ◌⊎
 use Rattle.std.specs.Bool.{Decides}
 use Rattle.std.proofs.lemmas.Bool.{false≢true}
 use Rattle.soundness.specs.OwnedWays.Ways.{Step, Component, Element, Root, OfVariable, OfHand, Loc, OfRoot, OfCell, Inside, Way, Object, Lost, Into, All, View, part, along, Below, Reaches, IsRooted, Under, Past}
+use Rattle.soundness.proofs.Parted.{by_either}
 
 pub both_parts : (a b : Bool) → a && b ≡ true → (a ≡ true) × (b ≡ true)
 both_parts true b e = (refl, e)
@@ -78,21 +79,11 @@ no_part t l first rest ([], e) = first e
 no_part t l first rest (i ∷ p, e) = rest p i e
 
 pub below : (t l : Loc) → Below t l ⊎ (Below t l → ⊥)
-below t (OfRoot x) = elim (same_loc (OfRoot x) t) [
-  | inl e ↦ inl ([], e)
-  | inr none ↦ inr (no_part t (OfRoot x) none (λ p i e. cc))
-]
-below t (OfCell n) = elim (same_loc (OfCell n) t) [
-  | inl e ↦ inl ([], e)
-  | inr none ↦ inr (no_part t (OfCell n) none (λ p i e. cc))
-]
-below t (Inside m i) = elim (same_loc (Inside m i) t) [
-  | inl e ↦ inl ([], e)
-  | inr none ↦ elim (below t m) [
-    | inl b ↦ inl (i ∷ b.0, ap (λ x. Inside x i) b.1)
-    | inr off ↦ inr (no_part t (Inside m i) none (λ p j e. off (p, cc)))
-  ]
-]
+below t (OfRoot x) = by_either (same_loc (OfRoot x) t) (λ e. (inl ([], e))) (λ none. (inr (no_part t (OfRoot x) none (λ p i e. cc))))
+below t (OfCell n) = by_either (same_loc (OfCell n) t) (λ e. (inl ([], e))) (λ none. (inr (no_part t (OfCell n) none (λ p i e. cc))))
+below t (Inside m i) = by_either (same_loc (Inside m i) t)
+    (λ e. (inl ([], e)))
+    (λ none. (by_either (below t m) (λ b. (inl (i ∷ b.0, ap (λ x. Inside x i) b.1))) (λ off. (inr (no_part t (Inside m i) none (λ p j e. off (p, cc)))))))
 
 -- a part has the depth of its whole
 abbrev pub depth : Way → ℕ
@@ -104,14 +95,8 @@ depth (All w) = suc (depth w)
 pub under_depth : (t w : Way) → Under t w → depth t ≤ depth w
 under_depth t (Object x) u = subst (λ v. depth v ≤ 0) (sym u) (omega arith)
 under_depth t (Lost n) u = subst (λ v. depth v ≤ 0) (sym u) (omega arith)
-under_depth t (Into w i) u = elim u [
-  | inl e ↦ subst (λ v. depth v ≤ suc (depth w)) (sym e) (omega arith)
-  | inr u ↦ let less = under_depth t w u in (omega arith)
-]
-under_depth t (All w) u = elim u [
-  | inl e ↦ subst (λ v. depth v ≤ suc (depth w)) (sym e) (omega arith)
-  | inr u ↦ let less = under_depth t w u in (omega arith)
-]
+under_depth t (Into w i) u = by_either u (λ e. (subst (λ v. depth v ≤ suc (depth w)) (sym e) (omega arith))) (λ u. (let less = under_depth t w u in (omega arith)))
+under_depth t (All w) u = by_either u (λ e. (subst (λ v. depth v ≤ suc (depth w)) (sym e) (omega arith))) (λ u. (let less = under_depth t w u in (omega arith)))
 
 pub under_itself : (w : Way) → Under w w
 under_itself (Object x) = refl
@@ -134,8 +119,8 @@ reaches_along s w l (i ∷ p) r = (part l p, reaches_along s w l p r, refl)
 pub named_under : (t w : Way) → Under t w → IsRooted t → IsRooted w
 named_under t (Object x) u n = subst IsRooted u n
 named_under t (Lost k) u n = subst IsRooted u n
-named_under t (Into w i) u n = elim u [ inl e ↦ subst IsRooted e n | inr u ↦ named_under t w u n ]
-named_under t (All w) u n = elim u [ inl e ↦ subst IsRooted e n | inr u ↦ named_under t w u n ]
+named_under t (Into w i) u n = by_either u (λ e. (subst IsRooted e n)) (λ u. (named_under t w u n))
+named_under t (All w) u n = by_either u (λ e. (subst IsRooted e n)) (λ u. (named_under t w u n))
 
 pub past_under : (t w : Way) → Past t w → Under t w
 past_under t (Object x) u = absurd u

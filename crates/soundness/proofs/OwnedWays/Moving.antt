@@ -3,6 +3,7 @@ use Rattle.std.proofs.Common.{◌≡◌, refl, sym, ap, ◌∙◌, subst, ◌⊎
 use Rattle.soundness.specs.OwnedWays.Ways.{Step, Loc, OfCell, Inside, Way, Object, Lost, Into, All, Gone, Held, View, part, along, Below, Reaches, IsRooted, Under, Past, Owned, Covered, Known, IsMove}
 use Rattle.soundness.proofs.OwnedWays.Locations.{below, under_itself, under_along, named_along, named_under, past_under, not_past, reaches_along, same_part, unpart}
 use Rattle.soundness.proofs.OwnedWays.Unique.{one_location, one_way}
+use Rattle.soundness.proofs.Parted.{by_either}
 
 -- what a move is given: ways to both places, neither of which begins the other
 pub record Given (s t : View) (f k : Way) (from to : Loc) : Type 0 where
@@ -87,29 +88,17 @@ is_false false e = refl
 
 pub owned_after : (s t : View) (f k : Way) (from to : Loc) → Given s t f k from to → Owned t
 owned_after s t f k from to g = record {
-  unique = λ l m n a b. elim (owner_before s t from to g.move l n a) [
-    | inl x ↦ elim (owner_before s t from to g.move m n b) [
-      | inl y ↦ x.1 ∙ same_part from to x.0 y.0 (g.owned.unique (part from x.0) (part from y.0) n x.2 y.2) ∙ sym y.1
-      | inr y ↦ absurd (y.off_from (x.0, g.owned.unique m (part from x.0) n y.word x.2))
-    ]
-    | inr x ↦ elim (owner_before s t from to g.move m n b) [
-      | inl y ↦ absurd (x.off_from (y.0, g.owned.unique l (part from y.0) n x.word y.2))
-      | inr y ↦ g.owned.unique l m n x.word y.word
-    ]
-  ];
-  live = λ l n h. elim (owner_before s t from to g.move l n h) [
-    | inl x ↦ g.move.freed n ∙ g.owned.live (part from x.0) n x.2
-    | inr x ↦ g.move.freed n ∙ g.owned.live l n x.word
-  ];
-  within = λ l n h. elim (owner_before s t from to g.move l n h) [
-    | inl x ↦ subst (λ z. n < z) (sym g.move.made) (g.owned.within (part from x.0) n x.2)
-    | inr x ↦ subst (λ z. n < z) (sym g.move.made) (g.owned.within l n x.word)
-  ];
+  unique = λ l m n a b. by_either (owner_before s t from to g.move l n a)
+      (λ x. (by_either (owner_before s t from to g.move m n b)
+      (λ y. (x.1 ∙ same_part from to x.0 y.0 (g.owned.unique (part from x.0) (part from y.0) n x.2 y.2) ∙ sym y.1))
+      (λ y. (absurd (y.off_from (x.0, g.owned.unique m (part from x.0) n y.word x.2))))))
+      (λ x. (by_either (owner_before s t from to g.move m n b) (λ y. (absurd (x.off_from (y.0, g.owned.unique l (part from y.0) n x.word y.2)))) (λ y. (g.owned.unique l m n x.word y.word))));
+  live = λ l n h. by_either (owner_before s t from to g.move l n h) (λ x. (g.move.freed n ∙ g.owned.live (part from x.0) n x.2)) (λ x. (g.move.freed n ∙ g.owned.live l n x.word));
+  within = λ l n h. by_either (owner_before s t from to g.move l n h)
+      (λ x. (subst (λ z. n < z) (sym g.move.made) (g.owned.within (part from x.0) n x.2)))
+      (λ x. (subst (λ z. n < z) (sym g.move.made) (g.owned.within l n x.word)));
   kept = λ l n h. is_false (t.leaked n) (λ e. owner_kept s t f k from to g l n h e);
-  counted = λ n e. subst (λ z. n < z) (sym g.move.made) (elim (g.move.only n e) [
-    | inl old ↦ g.owned.counted n old
-    | inr x ↦ g.owned.within (part to x.0) n x.1
-  ]);
+  counted = λ n e. subst (λ z. n < z) (sym g.move.made) (by_either (g.move.only n e) (λ old. (g.owned.counted n old)) (λ x. (g.owned.within (part to x.0) n x.1)));
 }
 
 -- what is reached and stands apart is still reached
@@ -121,10 +110,10 @@ still s t f k from to g (Into w i) l (m, r, e) a b =
     let whole = still s t f k from to g w m r
     (λ x. a (i ∷ x.0, e ∙ ap (λ y. Inside y i) x.1)) (λ x. b (i ∷ x.0, e ∙ ap (λ y. Inside y i) x.1)) in
     (Into whole.0 i, (m, whole.1, e))
-still s t f k from to g (All w) l (m, n, r, h, e) a b = elim (below to m) [
-  | inl x ↦ (Lost n, (g.move.checks x.0 n (subst (λ y. s.word y ≡ Held n) x.1 h), e))
-  | inr off ↦ elim (below from m) [
-    | inl x ↦ (
+still s t f k from to g (All w) l (m, n, r, h, e) a b = by_either (below to m)
+    (λ x. (Lost n, (g.move.checks x.0 n (subst (λ y. s.word y ≡ Held n) x.1 h), e)))
+    (λ off. (by_either (below from m)
+    (λ x. (
       All (along k x.0),
       (
         part to x.0,
@@ -133,12 +122,10 @@ still s t f k from to g (All w) l (m, n, r, h, e) a b = elim (below to m) [
         g.move.comes x.0 ∙ subst (λ y. s.word y ≡ Held n) x.1 h,
         e,
       ),
-    )
-    | inr away ↦ (
-        let whole = still s t f k from to g w m r off away in
-        (All whole.0, (m, n, whole.1, g.move.off m off away ∙ h, e)))
-  ]
-]
+    ))
+    (λ away. (
+    let whole = still s t f k from to g w m r off away in
+    (All whole.0, (m, n, whole.1, g.move.off m off away ∙ h, e))))))
 
 cell_alone : (l : Loc) (n : ℕ) → Below l (OfCell n) → l ≡ OfCell n
 cell_alone l n ([], e) = sym e
@@ -172,17 +159,14 @@ back : (s t : View) (f k : Way) (from to : Loc) → Given s t f k from to → (w
 back s t f k from to g (Object x) l n r off = inr (r, not_here s t f k from to g (Object x) l r off)
 back s t f k from to g (Lost x) l n r off = absurd n
 back s t f k from to g (Into w i) l n (m, r, e) off =
-    elim (back s t f k from to g w m n r (λ x. off (i ∷ x.0, e ∙ ap (λ y. Inside y i) x.1))) [
-      | inl x ↦ inl (Into x.0 i, x.1, (m, x.2, e))
-      | inr x ↦ inr ((m, x.0, e), λ u. elim u [ inl same ↦ not_here s t f k from to g (Into w i) l (m, r, e) off same | inr u ↦ x.1 u ])
-    ]
-back s t f k from to g (All w) l n (m, c, r, h, e) off = elim (owner_before s t from to g.move m c h) [
-  | inl x ↦ inl (All (along f x.0), under_along f f x.0 (under_itself f), (part from x.0, c, reaches_along s f from x.0 g.source, x.2, e))
-  | inr y ↦ elim (back s t f k from to g w m n r y.off_to) [
-    | inl x ↦ inl (All x.0, past_under f x.0 x.1, (m, c, x.2, y.word, e))
-    | inr x ↦ inr ((m, c, x.0, y.word, e), λ u. elim u [ inl same ↦ not_here s t f k from to g (All w) l (m, c, r, h, e) off same | inr u ↦ x.1 u ])
-  ]
-]
+    by_either (back s t f k from to g w m n r (λ x. off (i ∷ x.0, e ∙ ap (λ y. Inside y i) x.1)))
+    (λ x. (inl (Into x.0 i, x.1, (m, x.2, e))))
+    (λ x. (inr ((m, x.0, e), λ u. by_either u (λ same. (not_here s t f k from to g (Into w i) l (m, r, e) off same)) (λ u. (x.1 u)))))
+back s t f k from to g (All w) l n (m, c, r, h, e) off = by_either (owner_before s t from to g.move m c h)
+    (λ x. (inl (All (along f x.0), under_along f f x.0 (under_itself f), (part from x.0, c, reaches_along s f from x.0 g.source, x.2, e))))
+    (λ y. (by_either (back s t f k from to g w m n r y.off_to)
+    (λ x. (inl (All x.0, past_under f x.0 x.1, (m, c, x.2, y.word, e))))
+    (λ x. (inr ((m, c, x.0, y.word, e), λ u. by_either u (λ same. (not_here s t f k from to g (All w) l (m, c, r, h, e) off same)) (λ u. (x.1 u)))))))
 
 pub known_after : (s t : View) (f k : Way) (from to : Loc) (moved moved' : Way → Type 0) → Given s t f k from to
     → Known s moved → IsRooted f
@@ -190,29 +174,25 @@ pub known_after : (s t : View) (f k : Way) (from to : Loc) (moved moved' : Way �
     → ((w : Way) → moved w → (Under k w → ⊥) → moved' w)
     → ((p : List Step) → t.word (part from p) ≡ Gone → moved' (along f p))
     → Known t moved'
-known_after s t f k from to moved moved' g known named clean stays adds w l n r h = elim (below to l) [
-  | inl x ↦ (
-      let here = sym (g.move.comes x.0) ∙ subst (λ y. t.word y ≡ Gone) x.1 h in
-      absurd (clean (along f x.0) (under_along f f x.0 (under_itself f))
-      (known (along f x.0) (part from x.0) (named_along f x.0 named) (reaches_along s f from x.0 g.source) here)))
-  | inr off ↦ elim (below from l) [
-    | inl y ↦ elim (back s t f k from to g w l n r off) [
-      | inl x ↦ (
-          let same = one_way s g.owned x.0 (along f y.0) l x.2
-          (subst (Reaches s (along f y.0)) (sym y.1) (reaches_along s f from y.0 g.source)) in
-          absurd (not_past f y.0 (subst (Past f) same x.1)))
-      | inr x ↦ (
-          let same = one_way s g.owned w (along f y.0) l x.0
-          (subst (Reaches s (along f y.0)) (sym y.1) (reaches_along s f from y.0 g.source)) in
-          subst moved' (sym same) (adds y.0 (subst (λ z. t.word z ≡ Gone) y.1 h)))
-    ]
-    | inr away ↦ (
-        let here = sym (g.move.off l off away) ∙ h in
-        elim (back s t f k from to g w l n r off) [
-          | inl x ↦ (
-              let u = past_under f x.0 x.1 in
-              absurd (clean x.0 u (known x.0 l (named_under f x.0 u named) x.2 here)))
-          | inr x ↦ stays w (known w l n x.0 here) x.1
-        ])
-  ]
-]
+known_after s t f k from to moved moved' g known named clean stays adds w l n r h = by_either (below to l)
+    (λ x. (
+    let here = sym (g.move.comes x.0) ∙ subst (λ y. t.word y ≡ Gone) x.1 h in
+    absurd (clean (along f x.0) (under_along f f x.0 (under_itself f))
+    (known (along f x.0) (part from x.0) (named_along f x.0 named) (reaches_along s f from x.0 g.source) here))))
+    (λ off. (by_either (below from l)
+    (λ y. (by_either (back s t f k from to g w l n r off)
+    (λ x. (
+    let same = one_way s g.owned x.0 (along f y.0) l x.2
+    (subst (Reaches s (along f y.0)) (sym y.1) (reaches_along s f from y.0 g.source)) in
+    absurd (not_past f y.0 (subst (Past f) same x.1))))
+    (λ x. (
+    let same = one_way s g.owned w (along f y.0) l x.0
+    (subst (Reaches s (along f y.0)) (sym y.1) (reaches_along s f from y.0 g.source)) in
+    subst moved' (sym same) (adds y.0 (subst (λ z. t.word z ≡ Gone) y.1 h))))))
+    (λ away. (
+    let here = sym (g.move.off l off away) ∙ h in
+    by_either (back s t f k from to g w l n r off)
+    (λ x. (
+    let u = past_under f x.0 x.1 in
+    absurd (clean x.0 u (known x.0 l (named_under f x.0 u named) x.2 here))))
+    (λ x. (stays w (known w l n x.0 here) x.1))))))

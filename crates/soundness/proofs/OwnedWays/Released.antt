@@ -13,6 +13,7 @@ use Rattle.soundness.proofs.OwnedWays.Unique.{one_location}
 use Rattle.soundness.proofs.OwnedWays.Named.{covered_under}
 use Rattle.soundness.proofs.OwnedWays.Assigned.{kept_fact, is_false}
 use Rattle.soundness.proofs.Constructors.{is_empty_word, is_gone_word, is_held_word}
+use Rattle.soundness.proofs.Parted.{by_either}
 
 pub record Frees (s t : View) (k : Way) (at : Loc) (n : ℕ) : Type 0 where
   pub owned : Owned s
@@ -139,17 +140,10 @@ fresh_owner s t at f l c e = elim (same_loc l at) [
 fresh_back : (s t : View) (at : Loc) → IsFresh s t at → (w : Way) (l : Loc) → IsRooted w → Reaches t w l → Below (OfCell s.made) l ⊎ Reaches s w l
 fresh_back s t at f (Object x) l named r = inr r
 fresh_back s t at f (Lost x) l named r = absurd named
-fresh_back s t at f (Into w i) l named (m, r, e) = elim (fresh_back s t at f w m named r) [
-  | inl b ↦ inl (i ∷ b.0, e ∙ ap (λ y. Inside y i) b.1)
-  | inr r ↦ inr (m, r, e)
-]
-fresh_back s t at f (All w) l named (m, c, r, o, e) = elim (fresh_owner s t at f m c o) [
-  | inl x ↦ inl ([], e ∙ ap OfCell x.1)
-  | inr old ↦ elim (fresh_back s t at f w m named r) [
-    | inl b ↦ (let is : Held c ≡ Empty = sym o ∙ ap t.word b.1 ∙ f.empty b.0 in absurd (false≢true (ap is_empty_word is)))
-    | inr r ↦ inr (m, c, r, old, e)
-  ]
-]
+fresh_back s t at f (Into w i) l named (m, r, e) = by_either (fresh_back s t at f w m named r) (λ b. (inl (i ∷ b.0, e ∙ ap (λ y. Inside y i) b.1))) (λ r. (inr (m, r, e)))
+fresh_back s t at f (All w) l named (m, c, r, o, e) = by_either (fresh_owner s t at f m c o)
+    (λ x. (inl ([], e ∙ ap OfCell x.1)))
+    (λ old. (by_either (fresh_back s t at f w m named r) (λ b. (let is : Held c ≡ Empty = sym o ∙ ap t.word b.1 ∙ f.empty b.0 in absurd (false≢true (ap is_empty_word is)))) (λ r. (inr (m, c, r, old, e)))))
 
 pub fresh_on : (s t : View) (at : Loc) → IsFresh s t at → (w : Way) (l : Loc) → Reaches s w l → Reaches t w l
 fresh_on s t at f (Object x) l r = r
@@ -165,36 +159,22 @@ pub freshly : (home : ℕ → ℕ) (other : Way → Type 0) (s t : View) (k : Wa
     → IsFresh s t at → Sound home other t facts
 freshly home other s t k at facts sound there f = record {
   owned = record {
-    unique = λ l m c a b. elim (fresh_owner s t at f l c a) [
-      | inl x ↦ elim (fresh_owner s t at f m c b) [
-        | inl y ↦ x.0 ∙ sym y.0
-        | inr y ↦ (let less = subst (λ z. z < s.made) x.1 (sound.owned.within m c y) in absurd (omega arith))
-      ]
-      | inr x ↦ elim (fresh_owner s t at f m c b) [
-        | inl y ↦ (let less = subst (λ z. z < s.made) y.1 (sound.owned.within l c x) in absurd (omega arith))
-        | inr y ↦ sound.owned.unique l m c x y
-      ]
-    ];
-    live = λ l c a. elim (fresh_owner s t at f l c a) [
-      | inl x ↦ ap t.freed x.1 ∙ f.live
-      | inr x ↦ f.freed c (sound.owned.within l c x) ∙ sound.owned.live l c x
-    ];
-    within = λ l c a. subst (λ z. c < z) (sym f.made) (elim (fresh_owner s t at f l c a) [
-      | inl x ↦ (let same = x.1 in (omega arith))
-      | inr x ↦ (let less = sound.owned.within l c x in (omega arith))
-    ]);
-    kept = λ l c a. elim (fresh_owner s t at f l c a) [
-      | inl x ↦ f.leaked c ∙ ap s.leaked x.1 ∙ is_false (s.leaked s.made) (λ e. (let less = sound.owned.counted s.made e in absurd (omega arith)))
-      | inr x ↦ f.leaked c ∙ sound.owned.kept l c x
-    ];
+    unique = λ l m c a b. by_either (fresh_owner s t at f l c a)
+        (λ x. (by_either (fresh_owner s t at f m c b) (λ y. (x.0 ∙ sym y.0)) (λ y. (let less = subst (λ z. z < s.made) x.1 (sound.owned.within m c y) in absurd (omega arith)))))
+        (λ x. (by_either (fresh_owner s t at f m c b) (λ y. (let less = subst (λ z. z < s.made) y.1 (sound.owned.within l c x) in absurd (omega arith))) (λ y. (sound.owned.unique l m c x y))));
+    live = λ l c a. by_either (fresh_owner s t at f l c a) (λ x. (ap t.freed x.1 ∙ f.live)) (λ x. (f.freed c (sound.owned.within l c x) ∙ sound.owned.live l c x));
+    within = λ l c a. subst (λ z. c < z) (sym f.made) (by_either (fresh_owner s t at f l c a)
+        (λ x. (let same = x.1 in (omega arith)))
+        (λ x. (let less = sound.owned.within l c x in (omega arith))));
+    kept = λ l c a. by_either (fresh_owner s t at f l c a)
+        (λ x. (f.leaked c ∙ ap s.leaked x.1 ∙ is_false (s.leaked s.made) (λ e. (let less = sound.owned.counted s.made e in absurd (omega arith)))))
+        (λ x. (f.leaked c ∙ sound.owned.kept l c x));
     counted = λ c e. subst (λ z. c < z) (sym f.made) (let less = sound.owned.counted c (sym (f.leaked c) ∙ e) in (omega arith));
   };
-  covered = λ c less free. elim (less_or_last c s.made (subst (λ z. c < z) f.made less)) [
-    | inl old ↦ (let way = sound.covered c old (sym (f.freed c old) ∙ free) in (way.0, fresh_on s t at f way.0 (OfCell c) way.1))
-    | inr last ↦ (All k, (at, s.made, fresh_on s t at f k at there, f.now, ap OfCell last))
-  ];
-  known = λ w l named r gone. elim (fresh_back s t at f w l named r) [
-    | inl b ↦ (let is : Gone ≡ Empty = sym gone ∙ ap t.word b.1 ∙ f.empty b.0 in absurd (false≢true (ap is_empty_word is)))
-    | inr r ↦ sound.known w l named r (sym (f.off l (λ same. (let is : Gone ≡ Held s.made = sym gone ∙ ap t.word same ∙ f.now in absurd (false≢true (ap is_held_word is))))) ∙ gone)
-  ];
+  covered = λ c less free. by_either (less_or_last c s.made (subst (λ z. c < z) f.made less))
+      (λ old. (let way = sound.covered c old (sym (f.freed c old) ∙ free) in (way.0, fresh_on s t at f way.0 (OfCell c) way.1)))
+      (λ last. (All k, (at, s.made, fresh_on s t at f k at there, f.now, ap OfCell last)));
+  known = λ w l named r gone. by_either (fresh_back s t at f w l named r)
+      (λ b. (let is : Gone ≡ Empty = sym gone ∙ ap t.word b.1 ∙ f.empty b.0 in absurd (false≢true (ap is_empty_word is))))
+      (λ r. (sound.known w l named r (sym (f.off l (λ same. (let is : Gone ≡ Held s.made = sym gone ∙ ap t.word same ∙ f.now in absurd (false≢true (ap is_held_word is))))) ∙ gone)));
 }

@@ -10,6 +10,7 @@ use Rattle.soundness.specs.OwnedWays.Ways.{Step, Component, Element}
 use Rattle.machine.specs.Words.{no_component, words_before, component_type, element_of, count_of, element_type, element_count}
 use Rattle.soundness.specs.PartOffsets.Parts.{type_in, offset_in, has_part, owns_one, is_leaf, IsSettled}
 use Rattle.soundness.proofs.PartOffsets.Sums.{sum_next, sum_more, sum_all, run_before}
+use Rattle.soundness.proofs.Parted.{by_either}
 
 pub both_parts : (a b : Bool) → a && b ≡ true → (a ≡ true) × (b ≡ true)
 both_parts true b e = (refl, e)
@@ -140,20 +141,16 @@ module _ (table : Table) (settled : IsSettled table) where
     aside : Aside t p q → Lie t p q
 
   same_or_not : (i j : Step) → (i ≡ j) ⊎ (i ≡ j → ⊥)
-  same_or_not (Component i) (Component j) = elim (cases_lt i j) [
-    | inl lt ↦ inr (λ e. (let same : i ≡ j = cc in absurd (omega (arith, lt, same))))
-    | inr le ↦ elim (cases_lt j i) [
-      | inl lt ↦ inr (λ e. (let same : i ≡ j = cc in absurd (omega (arith, lt, same))))
-      | inr more ↦ (let same : i ≡ j = omega (arith, le, more) in inl (ap Component same))
-    ]
-  ]
-  same_or_not (Element i) (Element j) = elim (cases_lt i j) [
-    | inl lt ↦ inr (λ e. (let same : i ≡ j = cc in absurd (omega (arith, lt, same))))
-    | inr le ↦ elim (cases_lt j i) [
-      | inl lt ↦ inr (λ e. (let same : i ≡ j = cc in absurd (omega (arith, lt, same))))
-      | inr more ↦ (let same : i ≡ j = omega (arith, le, more) in inl (ap Element same))
-    ]
-  ]
+  same_or_not (Component i) (Component j) = by_either (cases_lt i j)
+      (λ lt. (inr (λ e. (let same : i ≡ j = cc in absurd (omega (arith, lt, same))))))
+      (λ le. (by_either (cases_lt j i)
+      (λ lt. (inr (λ e. (let same : i ≡ j = cc in absurd (omega (arith, lt, same))))))
+      (λ more. (let same : i ≡ j = omega (arith, le, more) in inl (ap Component same)))))
+  same_or_not (Element i) (Element j) = by_either (cases_lt i j)
+      (λ lt. (inr (λ e. (let same : i ≡ j = cc in absurd (omega (arith, lt, same))))))
+      (λ le. (by_either (cases_lt j i)
+      (λ lt. (inr (λ e. (let same : i ≡ j = cc in absurd (omega (arith, lt, same))))))
+      (λ more. (let same : i ≡ j = omega (arith, le, more) in inl (ap Element same)))))
   same_or_not (Component i) (Element j) = inr (λ e. cc)
   same_or_not (Element i) (Component j) = inr (λ e. cc)
 
@@ -163,13 +160,9 @@ module _ (table : Table) (settled : IsSettled table) where
       let within = all_within t r (k ∷ q) a in
       let lo = within.start in
       let hi = within.stop in
-      elim (same_or_not k j) [
-        | inl e ↦ first_in r (ap (λ x. r ++ x ∷ q) e)
-        | inr ne ↦ elim (siblings t q k j within.whole b ne) [
-          | inl before ↦ aside (inl (omega (arith, hi, before)))
-          | inr behind ↦ aside (inr (omega (arith, lo, behind)))
-        ]
-      ]
+      by_either (same_or_not k j)
+      (λ e. (first_in r (ap (λ x. r ++ x ∷ q) e)))
+      (λ ne. (by_either (siblings t q k j within.whole b ne) (λ before. (aside (inl (omega (arith, hi, before))))) (λ behind. (aside (inr (omega (arith, lo, behind)))))))
 
   pub lie : (t : ℕ) (p q : List Step) → has_part table t p ≡ true → has_part table t q ≡ true → Lie t p q
   lie t p [] a b = first_in p (sym (no_more p))

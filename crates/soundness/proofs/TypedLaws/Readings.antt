@@ -24,6 +24,7 @@ use Rattle.machine.specs.type_definitions.Entries.{integer}
 use Rattle.machine.specs.type_definitions.Names.{Context, seen, seen_info, is_within, step, led_on, along, ended, is_end, of_entry, type_attribute, scalar_attribute, array_attribute, ended_at, of_function, reading_if, is_call, is_imaged}
 use Rattle.machine.specs.type_definitions.Expressions.{profile_of}
 use Rattle.soundness.specs.TypedLaws.Fine.{counts, lists}
+use Rattle.soundness.proofs.Parted.{by_either}
 
 -- ---- readings and types, told apart
 
@@ -210,10 +211,7 @@ value_of c d u x (entry.Subprogram p) rest is = absurd (function_value d p.resul
 value_of c d u x (entry.Literal t n) rest is =
     let same = choice_value (is_end rest) t u (pos n) x is in
     inr (inl (n, ap (λ z. entry.Literal z n) (sym same)))
-value_of c d u x entry.Type (More (Attr a) rest) is = elim (type_value (base c.known.table d) a (seen c d) rest u x is) [
-  | inl whole ↦ inl whole
-  | inr bound ↦ inr (inr (refl, bound.0, bound.1))
-]
+value_of c d u x entry.Type (More (Attr a) rest) is = by_either (type_value (base c.known.table d) a (seen c d) rest u x is) (λ whole. (inl whole)) (λ bound. (inr (inr (refl, bound.0, bound.1))))
 value_of c d u x (entry.Predefined predefined.EndOfFile) rest is = absurd (called_value (is_call rest) reading.EndOfFile u x (λ z. false≢true (ap is_value z)) is)
 value_of c d u x e rest is = absurd (false≢true (ap is_value is))
 

@@ -57,7 +57,7 @@ use Rattle.soundness.proofs.Waits.{drop_none}
 use Rattle.soundness.specs.ViewedSoundness.Taken.{GivesPlainly}
 use Rattle.soundness.proofs.ViewedSoundness.Moments.{from_sound, hands_spared, other_hands, with_cell, taken_viewed}
 use Rattle.soundness.proofs.ViewedSoundness.Stays.{Goes, no_selectors, taking, steps_taking, name_on, waited_quiet}
-use Rattle.soundness.proofs.Parted.{null_cell}
+use Rattle.soundness.proofs.Parted.{null_cell, by_either}
 
 pub keep_both : (fixed : PlaceName → Bool) (a b : List Act) → AllKeep fixed (a ++ b) → AllKeep fixed a × AllKeep fixed b
 keep_both fixed [] b k = (tt, k)
@@ -505,7 +505,7 @@ module _ (h : Here) (sees : ℕ → Bool) (seeing : Seeing h.typing sees) (settl
     evaluated_on EndOfFile want scalar calls before on takes m hands facts ready allowed own keep =
         scalar_on on m hands facts facts want ready refl scalar (evaluate h AsValue EndOfFile (record { memory = m; waits = before })) (still m before on takes, refl)
     evaluated_on typed.Null want one calls before on takes m hands facts ready allowed own keep =
-        (blank_ready m hands facts want (machine.Null ∷ []) (λ k h. elim h [ inl e ↦ null_cell e | inr none ↦ none ]) ready, sym one, takes_zero before on takes)
+        (blank_ready m hands facts want (machine.Null ∷ []) (λ k h. by_either h (λ e. (null_cell e)) (λ none. (none))) ready, sym one, takes_zero before on takes)
     evaluated_on (Parens e) want gives calls before on takes m hands facts ready allowed own keep = evaluated_on e want gives calls before on takes m hands facts ready allowed own keep
     evaluated_on (Unary op e) want (scalar, stays) calls before on takes m hands facts ready allowed own keep =
         by_quiet (Unary op e) want scalar stays before on takes m hands facts ready allowed
@@ -567,17 +567,16 @@ module _ (h : Here) (sees : ℕ → Bool) (seeing : Seeing h.typing sees) (settl
         let el : ℕ = machine.element_type h.typing.table t in
         retyped_given on t want hands (after (acts (acts_in h.typing e)) facts) fits
         (followed_by (evaluate h AsValue e now) (λ ws now. followed_by (checked h el ws now) (repeats t)))
-        (elim plain [
-          | inl none ↦ subst (GivenOn on t hands (after (acts (acts_in h.typing e)) facts)) (regrouped (evaluate h AsValue e now) (checked h el) (repeats t))
-              (repeated_given on t hands (after (acts (acts_in h.typing e)) facts) array none (followed_by (evaluate h AsValue e now) (checked h el))
-              (checked_on on el el hands (after (acts (acts_in h.typing e)) facts) (evaluate h AsValue e now)
-              (evaluated_on e el gives calls before on takes m hands facts ready allowed (parts_named.element t) keep)))
-          | inr null ↦ subst (λ z. GivenOn on t hands (after (acts (acts_in h.typing z)) facts)
-              (followed_by (evaluate h AsValue z now) (λ ws now. followed_by (checked h el ws now) (repeats t)))) (sym null)
-              (subst (λ z. GivenOn on t hands facts (followed_by (checked h el (machine.Null ∷ []) (record { memory = m; waits = z })) (repeats t)))
-              (sym (takes_zero before on (takes_as (waiting e) 0 before on (ap waiting null) takes)))
-              (nulls_given on t m hands facts array (subst (Gives h.typing el) null gives) ready (fits_type h.typing.table el (machine.Null ∷ []))))
-        ])
+        (by_either plain
+        (λ none. (subst (GivenOn on t hands (after (acts (acts_in h.typing e)) facts)) (regrouped (evaluate h AsValue e now) (checked h el) (repeats t))
+        (repeated_given on t hands (after (acts (acts_in h.typing e)) facts) array none (followed_by (evaluate h AsValue e now) (checked h el))
+        (checked_on on el el hands (after (acts (acts_in h.typing e)) facts) (evaluate h AsValue e now)
+        (evaluated_on e el gives calls before on takes m hands facts ready allowed (parts_named.element t) keep)))))
+        (λ null. (subst (λ z. GivenOn on t hands (after (acts (acts_in h.typing z)) facts)
+        (followed_by (evaluate h AsValue z now) (λ ws now. followed_by (checked h el ws now) (repeats t)))) (sym null)
+        (subst (λ z. GivenOn on t hands facts (followed_by (checked h el (machine.Null ∷ []) (record { memory = m; waits = z })) (repeats t)))
+        (sym (takes_zero before on (takes_as (waiting e) 0 before on (ap waiting null) takes)))
+        (nulls_given on t m hands facts array (subst (Gives h.typing el) null gives) ready (fits_type h.typing.table el (machine.Null ∷ [])))))))
     -- the result of a function waits
     evaluated_on (Call p sub actuals) want (t, result, fits) calls before on takes m hands facts ready allowed own keep =
         scalar_on on m hands facts facts want ready refl (matches_plain t want fits (calls t result)) (run.waited (record { memory = m; waits = before }))

@@ -33,6 +33,7 @@ use Rattle.soundness.proofs.OwnedLoans.Others.{clean_away}
 use Rattle.soundness.proofs.OwnedLoans.Allowed.{move_unlent, move_unmoved}
 use Rattle.soundness.proofs.OwnedLoans.Moves.{IsPlace, rests_there, rooted_way, view_rooted, reached, view_on, parts_on, all_known, no_hand, taken, put}
 use Rattle.soundness.proofs.OwnedLoans.Ended.{Leaves, ended}
+use Rattle.soundness.proofs.Parted.{by_either}
 
 -- ---- ways through words that stay
 
@@ -212,12 +213,11 @@ module _ (s : Typing) (settled : IsSettled s.table) (home : ℕ → ℕ) (observ
       -- nothing at or below the name is gone
       whole : (p : List Step) → is_leaf s.table (content s m rest (trunk l)).of (p ++ steps_in l) ≡ true
           → (get_or (content s m rest (trunk l)).slots (offset_in s.table (content s m rest (trunk l)).of (p ++ steps_in l)) no_slot).gone ≡ false
-      whole p leaf = elim (bool_cases (get_or (content s m rest (trunk l)).slots (offset_in s.table (content s m rest (trunk l)).of (p ++ steps_in l)) no_slot).gone) [
-        | inr e ↦ e
-        | inl e ↦ absurd (clean (viewed.known (along (expand v u) p) (part l p) (named_along (expand v u) p rooted)
-            (reaches_along (seen s m rest leaks) (expand v u) l p reaches)
-            (word_part s.table (content s m rest) l p ∙ word_yes s.table (content s m rest (trunk l)) (p ++ steps_in l) owns leaf ∙ marked _ _ e)))
-      ]
+      whole p leaf = by_either (bool_cases (get_or (content s m rest (trunk l)).slots (offset_in s.table (content s m rest (trunk l)).of (p ++ steps_in l)) no_slot).gone)
+          (λ e. (absurd (clean (viewed.known (along (expand v u) p) (part l p) (named_along (expand v u) p rooted)
+          (reaches_along (seen s m rest leaks) (expand v u) l p reaches)
+          (word_part s.table (content s m rest) l p ∙ word_yes s.table (content s m rest (trunk l)) (p ++ steps_in l) owns leaf ∙ marked _ _ e)))))
+          (λ e. (e))
         where
           marked : (z : machine.Word) (g : Bool) → g ≡ true → owner_at z g ≡ Gone
           marked z true e = refl

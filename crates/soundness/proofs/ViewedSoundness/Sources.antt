@@ -42,6 +42,7 @@ use Rattle.soundness.proofs.ViewedSoundness.Given.{part_whole}
 use Rattle.soundness.proofs.ViewedSoundness.Names as names
 use Rattle.soundness.proofs.ViewedSoundness.Stays.{Goes, steps_taking}
 use Rattle.soundness.proofs.ViewedSoundness.Viewing.{IsDesignated, owner_designates, view_designates}
+use Rattle.soundness.proofs.Parted.{by_either}
 
 -- the type of a view
 anonymous_access : (c : Bool) → (not false && not c) || (not false && c) ≡ true
@@ -178,28 +179,25 @@ module _ (h : Here) (sees : ℕ → Bool) (seeing : Seeing h.typing sees) (settl
       let u : Way = way_along way (variable y) in
       let named : Named (home s h.frame) u = named_along (home s h.frame) way (variable y) refl in
       let root : number_of u ≡ y = number_along way (variable y) in
-      elim (name_lifted h sees seeing settled hands leaks m on other facts v kept viewed holds alone live y t way bare (λ e b q shape_is. named_is d e c b q (sym is ∙ shape_is)) starts) [
-        | inl plain ↦ owner_shows on y t d c way starts is
-            (λ moved. unmoved y u named root (λ e. absurd (not_both (sees y) e (plain_sees s sees seeing y plain))) clears moved)
-            (stands_owners s sees h.frame v m u holds named
-            (inl (ap (is_view_formal s) root ∙ (neither (is_anonymous (view_of s y)) (is_view_formal s y) plain).1)))
-            (is_place s v (home s h.frame y) y t way starts (λ e b q shape_is. named_is d e c b q (sym is ∙ shape_is))
-            (λ formal none. not_both (is_view_formal s y) formal (neither (is_anonymous (view_of s y)) (is_view_formal s y) plain).1) holds.only)
-            (inr (λ p. ap (λ z. v.part_way z p) root ∙ names.seen_parts h sees seeing settled hands leaks m on other facts v kept viewed holds alone live y (plain_sees s sees seeing y plain) p))
-            (λ e view. absurd (not_both (is_view s y) view plain)) (λ e. absurd (not_both (is_bundle s y) e bare))
-            (walked s way (variable_place h y) (at on)) there
-        | inr more ↦ elim more [
-          | inl lifted ↦ owner_shows on y t d c way starts is (λ moved. unmoved y u named root (λ e. lifted.0) clears moved) lifted.2
-              (lifted_place v u lifted.0) (inl (lifted_deep v u lifted.0)) (λ e view. (lifted.0, lifted.1)) (λ e. absurd (not_both (is_bundle s y) e bare))
-              (walked s way (variable_place h y) (at on)) there
-          | inr more ↦ elim more [
-            | inl raises ↦ raised (walked s way (variable_place h y) (at on)) raises
-            | inr itself ↦ subst (λ z. Quiet (at on) (Shows y d (way_along z (variable y))) (followed_by (walked s z (variable_place h y) (at on)) (held_or_taken h AsView)))
-                (sym itself.1) (view_shows on y d c true (ap (shape_of s.table) (subst (λ z. Starts s.table (object_at s y).of z t) itself.1 starts) ∙ is)
-                (either_true (is_anonymous (view_of s y)) (is_view_formal s y) itself.0))
-          ]
-        ]
-      ]
+      by_either (name_lifted h sees seeing settled hands leaks m on other facts v kept viewed holds alone live y t way bare (λ e b q shape_is. named_is d e c b q (sym is ∙ shape_is)) starts)
+      (λ plain. (owner_shows on y t d c way starts is
+      (λ moved. unmoved y u named root (λ e. absurd (not_both (sees y) e (plain_sees s sees seeing y plain))) clears moved)
+      (stands_owners s sees h.frame v m u holds named
+      (inl (ap (is_view_formal s) root ∙ (neither (is_anonymous (view_of s y)) (is_view_formal s y) plain).1)))
+      (is_place s v (home s h.frame y) y t way starts (λ e b q shape_is. named_is d e c b q (sym is ∙ shape_is))
+      (λ formal none. not_both (is_view_formal s y) formal (neither (is_anonymous (view_of s y)) (is_view_formal s y) plain).1) holds.only)
+      (inr (λ p. ap (λ z. v.part_way z p) root ∙ names.seen_parts h sees seeing settled hands leaks m on other facts v kept viewed holds alone live y (plain_sees s sees seeing y plain) p))
+      (λ e view. absurd (not_both (is_view s y) view plain)) (λ e. absurd (not_both (is_bundle s y) e bare))
+      (walked s way (variable_place h y) (at on)) there))
+      (λ more. (by_either more
+      (λ lifted. (owner_shows on y t d c way starts is (λ moved. unmoved y u named root (λ e. lifted.0) clears moved) lifted.2
+      (lifted_place v u lifted.0) (inl (lifted_deep v u lifted.0)) (λ e view. (lifted.0, lifted.1)) (λ e. absurd (not_both (is_bundle s y) e bare))
+      (walked s way (variable_place h y) (at on)) there))
+      (λ more. (by_either more
+      (λ raises. (raised (walked s way (variable_place h y) (at on)) raises))
+      (λ itself. (subst (λ z. Quiet (at on) (Shows y d (way_along z (variable y))) (followed_by (walked s z (variable_place h y) (at on)) (held_or_taken h AsView)))
+      (sym itself.1) (view_shows on y d c true (ap (shape_of s.table) (subst (λ z. Starts s.table (object_at s y).of z t) itself.1 starts) ∙ is)
+      (either_true (is_anonymous (view_of s y)) (is_view_formal s y) itself.0))))))))
     where
       raised : (x : Evaluated Place) → IsRaised h sees seeing settled hands leaks m on other facts v kept viewed holds alone live m x → Quiet (at on) (Shows y d (way_along way (variable y))) (followed_by x (held_or_taken h AsView))
       raised (Raises e n) same = same

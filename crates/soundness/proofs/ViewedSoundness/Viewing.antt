@@ -37,7 +37,7 @@ use Rattle.soundness.proofs.ViewedSoundness.Walks.{held_there}
 use Rattle.soundness.proofs.ViewedSoundness.Names.{stands_owners, part_owners}
 use Rattle.soundness.proofs.ViewedSoundness.ViewKinds.{true_false, anonymous_bundle, view_access}
 use Rattle.soundness.proofs.Constructors.{is_cell_word}
-use Rattle.soundness.proofs.Parted.{loc_frames, loc_objects, word_cells}
+use Rattle.soundness.proofs.Parted.{loc_frames, loc_objects, word_cells, by_either}
 
 -- ---- the way of what a name designates
 
@@ -255,30 +255,28 @@ module _ (s : Typing) (sees : ℕ → Bool) (settled : IsSettled s.table) where
   pub view_kept : (m : Memory) (hands : List Waiting) (f x : ℕ) (z : machine.Word) → is_anonymous (view_of s x) ≡ true
       → words s.table (object_at s x).of ≡ 1 → IsOfType m x z → Kept s m hands → Kept s (declared f x (z ∷ []) m) hands
   view_kept m hands f x z view one typed kept = record {
-    variables = λ g y. elim (same_loc (OfRoot (OfVariable g y)) (OfRoot (OfVariable f x))) [
-      | inl e ↦ (
-          let a : g ≡ f = loc_frames e in let b : y ≡ x = loc_objects e in
-          ap (λ q. length (variable_slots s q y (declared f x (z ∷ []) m).variables)) a
-          ∙ ap (λ q. length (variable_slots s f q (declared f x (z ∷ []) m).variables)) b
-          ∙ ap (λ (q : List Slot). length q) (put_same s f x (fresh (z ∷ [])) m.variables)
-          ∙ sym one ∙ ap (λ q. words s.table (object_at s q).of) (sym b))
-      | inr ne ↦ ap (λ (q : List Slot). length q) (put_other s f x g y (λ e. ne (ap OfRoot (sym e))) (fresh (z ∷ [])) m.variables) ∙ kept.variables g y
-    ];
+    variables = λ g y. by_either (same_loc (OfRoot (OfVariable g y)) (OfRoot (OfVariable f x)))
+        (λ e. (
+        let a : g ≡ f = loc_frames e in let b : y ≡ x = loc_objects e in
+        ap (λ q. length (variable_slots s q y (declared f x (z ∷ []) m).variables)) a
+        ∙ ap (λ q. length (variable_slots s f q (declared f x (z ∷ []) m).variables)) b
+        ∙ ap (λ (q : List Slot). length q) (put_same s f x (fresh (z ∷ [])) m.variables)
+        ∙ sym one ∙ ap (λ q. words s.table (object_at s q).of) (sym b)))
+        (λ ne. (ap (λ (q : List Slot). length q) (put_other s f x g y (λ e. ne (ap OfRoot (sym e))) (fresh (z ∷ [])) m.variables) ∙ kept.variables g y));
     cells = kept.cells;
     points = λ l. points l;
   }
     where
       points : (l : Loc) → Points s (declared f x (z ∷ []) m) (content s (declared f x (z ∷ []) m) hands l)
-      points (OfRoot (OfVariable g y)) = elim (same_loc (OfRoot (OfVariable g y)) (OfRoot (OfVariable f x))) [
-        | inr ne ↦ subst (λ q. Points s m (record { of = (object_at s y).of; slots = q; owns = (content s m hands (OfRoot (OfVariable g y))).owns }))
-            (sym (put_other s f x g y (λ e. ne (ap OfRoot (sym e))) (fresh (z ∷ [])) m.variables)) (kept.points (OfRoot (OfVariable g y)))
-        | inl e ↦ (
-            let a : g ≡ f = loc_frames e in let b : y ≡ x = loc_objects e in
-            subst (λ q. Points s m (content s (declared f x (z ∷ []) m) hands (OfRoot (OfVariable q y)))) (sym a)
-            (subst (λ q. Points s m (content s (declared f x (z ∷ []) m) hands (OfRoot (OfVariable f q)))) (sym b)
-            (subst (λ q. Points s m (record { of = (object_at s x).of; slots = q; owns = (content s m hands (OfRoot (OfVariable f x))).owns }))
-            (sym (put_same s f x (fresh (z ∷ [])) m.variables)) own)))
-      ]
+      points (OfRoot (OfVariable g y)) = by_either (same_loc (OfRoot (OfVariable g y)) (OfRoot (OfVariable f x)))
+          (λ e. (
+          let a : g ≡ f = loc_frames e in let b : y ≡ x = loc_objects e in
+          subst (λ q. Points s m (content s (declared f x (z ∷ []) m) hands (OfRoot (OfVariable q y)))) (sym a)
+          (subst (λ q. Points s m (content s (declared f x (z ∷ []) m) hands (OfRoot (OfVariable f q)))) (sym b)
+          (subst (λ q. Points s m (record { of = (object_at s x).of; slots = q; owns = (content s m hands (OfRoot (OfVariable f x))).owns }))
+          (sym (put_same s f x (fresh (z ∷ [])) m.variables)) own))))
+          (λ ne. (subst (λ q. Points s m (record { of = (object_at s y).of; slots = q; owns = (content s m hands (OfRoot (OfVariable g y))).owns }))
+          (sym (put_other s f x g y (λ e. ne (ap OfRoot (sym e))) (fresh (z ∷ [])) m.variables)) (kept.points (OfRoot (OfVariable g y)))))
         where
           own : Points s m (record { of = (object_at s x).of; slots = fresh (z ∷ []); owns = (content s m hands (OfRoot (OfVariable f x))).owns })
           own p d c n k there is e =
