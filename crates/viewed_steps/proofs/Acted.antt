@@ -51,6 +51,7 @@ use Rattle.machine.specs.place_names.Names.{Name as PlaceName, covers}
 use Rattle.machine.specs.place_names.declared.fact.Fact.TheVariants.{Moved}
 use Rattle.viewed_steps.proofs.Released.{ends_there}
 use Rattle.viewed_steps.proofs.Constructors.{is_empty_word}
+use Rattle.soundness.proofs.Parted.{by_either}
 
 module _ (h : Here) (sees : ℕ → Bool) (seeing : Seeing h.typing sees) (settled : IsSettled h.typing.table) (hands : List Waiting) (leaks : List Leak) (m : Memory) (waits : List (List machine.Word))
     (other : Around (home h.typing h.frame)) (facts : List Fact) (v : Views)
@@ -198,22 +199,21 @@ module _ (h : Here) (sees : ℕ → Bool) (seeing : Seeing h.typing sees) (settl
     nothing_stands w l known named plain place reaches empty there = record {
       owned = there.owned;
       covered = there.covered;
-      known = λ z at rooted r is. elim (there.known z at rooted r is) [
-        | inr o ↦ inr o
-        | inl (u, moved, leads) ↦ inl (
-          u,
-          (
-            moved.0,
-            kept_fact (act.Write (ways.name_of w)) known (Moved (ways.name_of u)) moved.1
-                (is_false (covers (ways.name_of w) (ways.name_of u)) (λ e. (
-                let below = covered_under (home h.typing h.frame) w u named moved.0 e in
-                let under = subst (Under (expand v w)) leads (expand_under v w u place (bare (ways.number_of u) (ap sees (longer w u below).root ∙ plain)) below) in
-                let b = ends_there (seen h.typing m hands leaks) (expand v w) l reaches empty z at r under in
-                let no : Gone ≡ Empty = sym is ∙ ap (seen h.typing m hands leaks).word b.1 ∙ empty b.0 in absurd (false≢true (ap is_empty_word no))))),
-          ),
-          leads,
-        )
-      ];
+      known = λ z at rooted r is. by_either (there.known z at rooted r is)
+          (λ (u, moved, leads). (inl (
+            u,
+            (
+              moved.0,
+              kept_fact (act.Write (ways.name_of w)) known (Moved (ways.name_of u)) moved.1
+                  (is_false (covers (ways.name_of w) (ways.name_of u)) (λ e. (
+                  let below = covered_under (home h.typing h.frame) w u named moved.0 e in
+                  let under = subst (Under (expand v w)) leads (expand_under v w u place (bare (ways.number_of u) (ap sees (longer w u below).root ∙ plain)) below) in
+                  let b = ends_there (seen h.typing m hands leaks) (expand v w) l reaches empty z at r under in
+                  let no : Gone ≡ Empty = sym is ∙ ap (seen h.typing m hands leaks).word b.1 ∙ empty b.0 in absurd (false≢true (ap is_empty_word no))))),
+            ),
+            leads,
+          )))
+          (λ o. (inr o));
     }
 
     place_acted : (owning access : Bool) (x : ℕ) (e : TypedTree) (k : Place) (known : List Fact) → (given : IsPlaceGiven x e k)

@@ -26,6 +26,7 @@ use Rattle.viewed_steps.proofs.Uses.{writes_there, borrowing_writes, moving_writ
 use Rattle.viewed_steps.proofs.Showing.{none_moved}
 use Rattle.viewed_steps.proofs.Withheld.{kept_cases, kept_loan}
 use Rattle.soundness.proofs.Lists.{Has-append_cases}
+use Rattle.soundness.proofs.Parted.{by_either}
 
 both_first : (a b : Bool) → a && b ≡ true → a ≡ true
 both_first true b e = refl
@@ -123,39 +124,32 @@ module _ (table : Table) (typed : TypedProgram) (effects : Effects) (are : AreEf
     -- and so is what is known as moved or borrowed
     known_written : (f : Fact) → Has (known_at program effects g.stage) f → loan_by f ≡ Borrowed → is_package_object s (place f).root ≡ true
         → Has (written_by effects g.stage.frame.sub) (place f).root
-    known_written (Moved n) has borrowed shared = elim (Has-append_cases (facts_of program effects g.stage) (shown_at program g.stage) (Moved n) has) [
-      | inl fact ↦ moved_written g.stage waits.named waits.of_sub n fact shared
-      | inr shown ↦ absurd (none_moved program (sub_of program g.stage.frame.sub) g.stage.before n shown)
-    ]
-    known_written (Lent l h n) has borrowed shared = elim (Has-append_cases (facts_of program effects g.stage) (shown_at program g.stage) (Lent l h n) has) [
-      | inl fact ↦ lent_written g.stage waits.named waits.of_sub h n (subst (λ z. Has (facts_of program effects g.stage) (Lent z h n)) borrowed fact) shared
-      | inr shown ↦ (waits.shown l h n shown shared).1 borrowed
-    ]
+    known_written (Moved n) has borrowed shared = by_either (Has-append_cases (facts_of program effects g.stage) (shown_at program g.stage) (Moved n) has)
+        (λ fact. (moved_written g.stage waits.named waits.of_sub n fact shared))
+        (λ shown. (absurd (none_moved program (sub_of program g.stage.frame.sub) g.stage.before n shown)))
+    known_written (Lent l h n) has borrowed shared = by_either (Has-append_cases (facts_of program effects g.stage) (shown_at program g.stage) (Lent l h n) has)
+        (λ fact. (lent_written g.stage waits.named waits.of_sub h n (subst (λ z. Has (facts_of program effects g.stage) (Lent z h n)) borrowed fact) shared))
+        (λ shown. ((waits.shown l h n shown shared).1 borrowed))
 
     kept_written : (f : Fact) → Has (withheld program effects g) f → loan_by f ≡ Borrowed → is_package_object s (place f).root ≡ true
         → Has (written_by effects g.stage.frame.sub) (place f).root
-    kept_written f has borrowed shared = elim (kept_cases program effects g f has) [
-      | inl known ↦ known_written f known.0 borrowed shared
-      | inr (y, passed, is) ↦ root_written f y passed is shared
-    ]
+    kept_written f has borrowed shared = by_either (kept_cases program effects g f has) (λ known. (known_written f known.0 borrowed shared)) (λ (y, passed, is). (root_written f y passed is shared))
 
     -- what is kept is used
     kept_used : (f : Fact) → Has (withheld program effects g) f → is_package_object s (place f).root ≡ true → Uses effects g.stage.frame.sub (place f).root
     kept_used (Moved n) has shared = inr (kept_written (Moved n) has refl shared)
-    kept_used (Lent l h n) has shared = elim (Has-append_cases (facts_of program effects g.stage) (shown_at program g.stage) (Lent l h n) (kept_loan program effects g l h n has).0) [
-      | inl fact ↦ lent_used g.stage waits.named waits.of_sub l h n fact shared
-      | inr shown ↦ (waits.shown l h n shown shared).0
-    ]
+    kept_used (Lent l h n) has shared = by_either (Has-append_cases (facts_of program effects g.stage) (shown_at program g.stage) (Lent l h n) (kept_loan program effects g l h n has).0)
+        (λ fact. (lent_used g.stage waits.named waits.of_sub l h n fact shared))
+        (λ shown. ((waits.shown l h n shown shared).0))
 
     -- what is kept as borrowed isn't observed
     kept_apart : (f : Fact) (h : ℕ) (m : Name) → Has (withheld program effects g) f → loan_by f ≡ Borrowed → Has (withheld program effects g) (Lent Observed h m)
         → overlaps (place f) m ≡ true → ⊥
     kept_apart f h m has borrowed seen over =
         let own = kept_loan program effects g Observed h m seen in
-        elim (kept_cases program effects g f has) [
-          | inl known ↦ waits.apart f h m known.0 borrowed own.0 over
-          | inr (y, passed, is) ↦ own.1 (subst (Has (passed_roots effects g)) (sym (ap (λ z. (place z).root) is) ∙ same_root (place f) m over) passed)
-        ]
+        by_either (kept_cases program effects g f has)
+        (λ known. (waits.apart f h m known.0 borrowed own.0 over))
+        (λ (y, passed, is). (own.1 (subst (Has (passed_roots effects g)) (sym (ap (λ z. (place z).root) is) ∙ same_root (place f) m over) passed)))
 
   module _ (unused : (state : State) (callee : ℕ) (backs : List Return) (older : List ViewStage) → AreWaiting table typed effects state callee backs older → (g : ViewStage) → Has older g
       → (name : Name) → Has (withheld (flow_program table typed) effects g) (Moved name)

@@ -42,6 +42,7 @@ use Rattle.viewed_steps.proofs.Entered.{matches_back, inside_no_view}
 use Rattle.viewed_steps.proofs.Lodged.{cell_live}
 use Rattle.viewed_steps.proofs.Views.{AreAccess, AreFar}
 use Rattle.viewed_steps.proofs.Constructors.{is_held_word, is_of_cell_loc}
+use Rattle.soundness.proofs.Parted.{by_either}
 
 -- A place in a variable is there, and one in a cell that isn't freed.
 abbrev pub IsThere : Memory → memory.Base → Type 0
@@ -304,10 +305,9 @@ module _ (t : Turn) (sees : ℕ → Bool) (settled : IsSettled (typing t).table)
     in_place g y p q is =
         let start_is : OfRoot (OfVariable g y) ≡ inside.start =
         sym (trunk_part (OfRoot (OfVariable g y)) p) ∙ ap trunk is ∙ trunk_part at q ∙ trunk_is s depth r.to to inside in
-        elim inside.stands [
-          | inl variable ↦ (let same = same_variable g y inside.frame inside.object (start_is ∙ variable.1) in (variable, same.0, same.1))
-          | inr cell ↦ (let never : OfRoot (OfVariable g y) ≡ OfCell cell.0 = start_is ∙ cell.1 in absurd (false≢true (ap is_of_cell_loc never)))
-        ]
+        by_either inside.stands
+        (λ variable. (let same = same_variable g y inside.frame inside.object (start_is ∙ variable.1) in (variable, same.0, same.1)))
+        (λ cell. (let never : OfRoot (OfVariable g y) ≡ OfCell cell.0 = start_is ∙ cell.1 in absurd (false≢true (ap is_of_cell_loc never))))
 
     -- the way of what is in the place
     in_place_way : (g y : ℕ) (p q : List Step) → part (OfRoot (OfVariable g y)) p ≡ part at q → along (Object (OfVariable g y)) p ≡ along to q
@@ -346,19 +346,15 @@ module _ (t : Turn) (sees : ℕ → Bool) (settled : IsSettled (typing t).table)
     -- what was gone stays so, but in the place
     pub one_carried : AreCarried s (λ g. g ≡ suc depth → ⊥) cells (to ∷ []) m next
     one_carried = record {
-      held = λ g y p c other_frame off held. elim (holds_next g y p c held) [
-        | inl before ↦ held_mid g y p c before
-        | inr (q, is) ↦ absurd (off (to, inl refl, q, in_place_way g y p q is))
-      ];
+      held = λ g y p c other_frame off held. by_either (holds_next g y p c held)
+          (λ before. (held_mid g y p c before))
+          (λ (q, is). (absurd (off (to, inl refl, q, in_place_way g y p q is))));
       gone = λ g y p other_frame off gone.
           carried_gone_to s settled (home s depth) v second (AwayBy rest ways) mid got hands leaks facts r.to at to stand_mid kept_mid spot_to reached owns_to
           long fits bare g y p (λ there. off (to, inl refl, there.0, in_place_way g y p there.0 there.1))
           (carried_gone s settled (home s depth) v first second m hands leaks facts formal
           (OfRoot (OfVariable (suc depth) r.formal)) root stand typed spot tt refl owns clean g y p gone);
-      in_cells = λ n p c off held. elim (holds_cell n p c held) [
-        | inl before ↦ held_mid_cell n p c before
-        | inr (q, is) ↦ absurd (off (in_place_cell n p q is))
-      ];
+      in_cells = λ n p c off held. by_either (holds_cell n p c held) (λ before. (held_mid_cell n p c before)) (λ (q, is). (absurd (off (in_place_cell n p q is))));
       gone_cells = λ n p off gone.
           carried_gone_cell_to s settled (home s depth) v second (AwayBy rest ways) mid got hands leaks facts r.to at to stand_mid kept_mid spot_to reached owns_to
           long fits bare n p (λ there. off (in_place_cell n p there.0 there.1))
@@ -381,31 +377,27 @@ module _ (t : Turn) (sees : ℕ → Bool) (settled : IsSettled (typing t).table)
 
     pub one_held : (g y : ℕ) (p : List Step) (c : ℕ) → word_in s.table (content s next [] (OfRoot (OfVariable g y))) p ≡ Held c
         → (word_in s.table (content s m [] (OfRoot (OfVariable g y))) p ≡ Held c) ⊎ ((g ≡ home s depth y) × (is_package_object s y ≡ false → is_within y scope ≡ true))
-    one_held g y p c held = elim (holds_next g y p c held) [
-      | inl before ↦ inl (held_mid g y p c before)
-      | inr (q, is) ↦ (let there = in_place g y p q is in
-          inr (
-            there.1 ∙ (there.0).3 ∙ ap (home s depth) (sym there.2),
-            (λ local. ap (λ z. is_within z scope) there.2
-                ∙ passed.within there.0 (ap (is_package_object s) (sym there.2) ∙ local) (ap (λ z. is_owning s.table (object_at s z).of) (sym there.2) ∙ owning_there y g p c held)),
-          ))
-    ]
+    one_held g y p c held = by_either (holds_next g y p c held)
+        (λ before. (inl (held_mid g y p c before)))
+        (λ (q, is). (let there = in_place g y p q is in
+        inr (
+          there.1 ∙ (there.0).3 ∙ ap (home s depth) (sym there.2),
+          (λ local. ap (λ z. is_within z scope) there.2
+              ∙ passed.within there.0 (ap (is_package_object s) (sym there.2) ∙ local) (ap (λ z. is_owning s.table (object_at s z).of) (sym there.2) ∙ owning_there y g p c held)),
+        )))
 
     pub one_empty : (p : List Step) (c : ℕ) → word_in s.table (content s next [] (OfRoot (OfVariable (suc depth) r.formal))) p ≡ Held c → ⊥
-    one_empty p c held = elim (holds_next (suc depth) r.formal p c held) [
-      | inl before ↦ empty_mid p c before
-      | inr (q, is) ↦ (let frames = (in_place (suc depth) r.formal p q is).1 in let low = inside_low s depth r.to to inside in omega (arith, frames, low))
-    ]
+    one_empty p c held = by_either (holds_next (suc depth) r.formal p c held)
+        (λ before. (empty_mid p c before))
+        (λ (q, is). (let frames = (in_place (suc depth) r.formal p q is).1 in let low = inside_low s depth r.to to inside in omega (arith, frames, low)))
 
     -- the other places have none still
     pub one_bare : (k : Place) (w : Way) → Has ways w → (there : IsInside s depth k w) → IsAmong cells there.start there.trunk → IsBare s depth k w m there → IsBare s depth k w next there
-    one_bare k w has there among none p c held = elim (holds_start (p ++ there.steps) c held) [
-      | inl before ↦ none p c (held_mid_start k w there (p ++ there.steps) c before)
-      | inr (q, is) ↦
-          parts_apart (seen s mid (got ∷ hands) leaks) to w at (inside_at s depth k w there) stand_mid.owned reached
-          (inside_reached s depth k w there (seen s mid (got ∷ hands) leaks) (start_mid k w there among)) (apart w has).0 (apart w has).1 q p
-          (sym is ∙ part_append there.start p there.steps)
-    ]
+    one_bare k w has there among none p c held = by_either (holds_start (p ++ there.steps) c held)
+        (λ before. (none p c (held_mid_start k w there (p ++ there.steps) c before)))
+        (λ (q, is). (parts_apart (seen s mid (got ∷ hands) leaks) to w at (inside_at s depth k w there) stand_mid.owned reached
+        (inside_reached s depth k w there (seen s mid (got ∷ hands) leaks) (start_mid k w there among)) (apart w has).0 (apart w has).1 q p
+        (sym is ∙ part_append there.start p there.steps)))
       where
         part_append : (l : Loc) (p q : List Step) → part l (p ++ q) ≡ part (part l q) p
         part_append l [] q = refl
@@ -413,14 +405,11 @@ module _ (t : Turn) (sees : ℕ → Bool) (settled : IsSettled (typing t).table)
 
         holds_start : (q : List Step) (c : ℕ) → word_in s.table (content s next [] there.start) q ≡ Held c
             → (word_in s.table (content s mid [] there.start) q ≡ Held c) ⊎ ((p : List Step) × (part there.start q ≡ part at p))
-        holds_start q c held = elim there.stands [
-          | inl variable ↦
-              subst (λ z. (word_in s.table (content s mid [] z) q ≡ Held c) ⊎ ((p : List Step) × (part z q ≡ part at p))) (sym variable.1)
-              (holds_next there.frame there.object q c (subst (λ z. word_in s.table (content s next [] z) q ≡ Held c) variable.1 held))
-          | inr cell ↦
-              subst (λ z. (word_in s.table (content s mid [] z) q ≡ Held c) ⊎ ((p : List Step) × (part z q ≡ part at p))) (sym cell.1)
-              (holds_cell cell.0 q c (subst (λ z. word_in s.table (content s next [] z) q ≡ Held c) cell.1 held))
-        ]
+        holds_start q c held = by_either there.stands
+            (λ variable. (subst (λ z. (word_in s.table (content s mid [] z) q ≡ Held c) ⊎ ((p : List Step) × (part z q ≡ part at p))) (sym variable.1)
+            (holds_next there.frame there.object q c (subst (λ z. word_in s.table (content s next [] z) q ≡ Held c) variable.1 held))))
+            (λ cell. (subst (λ z. (word_in s.table (content s mid [] z) q ≡ Held c) ⊎ ((p : List Step) × (part z q ≡ part at p))) (sym cell.1)
+            (holds_cell cell.0 q c (subst (λ z. word_in s.table (content s next [] z) q ≡ Held c) cell.1 held))))
 
     pub one_stays : (w : Way) (g y : ℕ) → base_of w ≡ OfRoot (OfVariable g y) → (g ≡ suc depth → ⊥) → (Past to w → ⊥) → (c : ℕ)
         → Reaches (seen s m hands leaks) w (OfCell c) → Reaches (seen s next hands leaks) w (OfCell c)
@@ -479,11 +468,10 @@ module _ (t : Turn) (sees : ℕ → Bool) (settled : IsSettled (typing t).table)
   copied_then r rest ways m later copied on n back = record {
     typed = back.typed;
     stand = back.stand;
-    held = λ g y p c held. elim (back.held g y p c held) [ inl h ↦ inl (sym (on.hold g y p) ∙ h) | inr h ↦ inr h ];
-    empty = λ q has. elim has [
-      | inl same ↦ (λ p c held. scalar_empty n r.formal copied.0 p c (subst (λ (z : Return). word_in s.table (content s n [] (OfRoot (OfVariable (suc depth) z.formal))) p ≡ Held c) (sym same) held))
-      | inr later ↦ back.empty q later
-    ];
+    held = λ g y p c held. by_either (back.held g y p c held) (λ h. (inl (sym (on.hold g y p) ∙ h))) (λ h. (inr h));
+    empty = λ q has. by_either has
+        (λ same. (λ p c held. scalar_empty n r.formal copied.0 p c (subst (λ (z : Return). word_in s.table (content s n [] (OfRoot (OfVariable (suc depth) z.formal))) p ≡ Held c) (sym same) held)))
+        (λ later. (back.empty q later));
     views = λ g y i view. back.views g y i view ∙ on.views g y i view;
     carried = carried_then s (λ g. g ≡ suc depth → ⊥) cells ways ways ways m later n (λ w taken. taken) (λ w taken. taken)
         (carried_same s (λ g. g ≡ suc depth → ⊥) cells ways m later on.hold (λ c p. cells_same s m later hands leaks on.same c p)) back.carried;
@@ -569,20 +557,15 @@ module _ (t : Turn) (sees : ℕ → Bool) (settled : IsSettled (typing t).table)
       (λ n back. record {
         typed = back.typed;
         stand = back.stand;
-        held = λ g y p c held. elim (back.held g y p c held) [
-          | inl h ↦ one_held r rest to ways m taken apart another begin_ways typed stand cells_now g y p c h
-          | inr h ↦ inr h
-        ];
-        empty = λ q has. elim has [
-          | inr there ↦ back.empty q there
-          | inl same ↦ (λ p c held. elim (back.held (suc depth) r.formal p c (subst (λ (z : Return). word_in s.table (content s n [] (OfRoot (OfVariable (suc depth) z.formal))) p ≡ Held c) (sym same) held)) [
-            | inl h ↦ one_empty r rest to ways m taken apart another begin_ways typed stand cells_now p c h
-            | inr h ↦ (let frames = h.0 in let low = home_low s depth r.formal in omega (arith, frames, low))
-          ])
-        ];
+        held = λ g y p c held. by_either (back.held g y p c held) (λ h. (one_held r rest to ways m taken apart another begin_ways typed stand cells_now g y p c h)) (λ h. (inr h));
+        empty = λ q has. by_either has
+            (λ same. (λ p c held. by_either (back.held (suc depth) r.formal p c (subst (λ (z : Return). word_in s.table (content s n [] (OfRoot (OfVariable (suc depth) z.formal))) p ≡ Held c) (sym same) held))
+            (λ h. (one_empty r rest to ways m taken apart another begin_ways typed stand cells_now p c h))
+            (λ h. (let frames = h.0 in let low = home_low s depth r.formal in omega (arith, frames, low)))))
+            (λ there. (back.empty q there));
         views = λ g y i view. back.views g y i view ∙ one_views r rest to ways m taken apart another begin_ways typed stand cells_now g y i view;
         carried = carried_then s (λ g. g ≡ suc depth → ⊥) cells (to ∷ []) ways (to ∷ ways) m next n
-            (λ w there. elim there.1 [ inl same ↦ (there.0, inl same, there.2, there.3) | inr never ↦ absurd never ]) (λ w there. taken_more to ways w there)
+            (λ w there. by_either there.1 (λ same. (there.0, inl same, there.2, there.3)) (λ never. (absurd never))) (λ w there. taken_more to ways w there)
             (one_carried r rest to ways m taken apart another begin_ways typed stand cells_now) back.carried;
         stays = λ w g y base off aside c reach. back.stays w g y base off (λ k has. aside k (inr has)) c
             (one_stays r rest to ways m taken apart another begin_ways typed stand cells_now w g y base off (aside to (inl refl)) c reach);

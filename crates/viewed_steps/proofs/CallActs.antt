@@ -87,6 +87,7 @@ use Rattle.viewed_steps.specs.Seeing.{sees_in}
 use Rattle.viewed_steps.proofs.Sees.{sees_seeing}
 use Rattle.viewed_steps.proofs.Constructors.{is_end_scope_instruction}
 use Rattle.viewed_steps.proofs.InnerFrame.{InnerFrame}
+use Rattle.soundness.proofs.Parted.{by_either}
 
 module _ (table : Table) (typed : TypedProgram) (effects : Effects) (input : List ℕ) (ready : IsReady table typed effects) where
   abbrev sees : ℕ → Bool
@@ -363,7 +364,7 @@ module _ (table : Table) (typed : TypedProgram) (effects : Effects) (input : Lis
       -- ---- both
 
       acting : IsActing
-      acting = elim traverses_or [ inl none ↦ plain_acts none | inr (f, traversed) ↦ traversal_acts f traversed ]
+      acting = by_either traverses_or (λ none. (plain_acts none)) (λ (f, traversed). (traversal_acts f traversed))
 
       pub reads_there : AreReads values
       reads_there = acting.reads
@@ -456,14 +457,10 @@ module _ (table : Table) (typed : TypedProgram) (effects : Effects) (input : Lis
 
       pub shown_there : (b : alias.Passed) → Has (alias.passed formals actuals) b → is_given s b.formal ≡ true
           → IsPlainlyShown b ⊎ ((f : ℕ) × (traversed : traversed_formal s (sub_of program n) ≡ Some f) × (b.formal ≡ f) × (b.actual.name ≡ traversed_name (made f traversed).call))
-      shown_there b has given = elim traverses_or [
-        | inl none ↦ inl (by_call none (view_formal_in b.formal (given_owns b.formal (unseen_plain none b.formal (named_has formals actuals b has)) given)))
-        | inr (f, traversed) ↦ elim (Has-append_cases (alias.passed_as f (written (first f traversed))) (alias.passed (traversing f traversed).rest ((made f traversed).call).others) b
-            (subst (λ z. Has z b) (λ j. alias.passed ((traversing f traversed).formals j) ((made f traversed).actuals_are j)) has)) [
-              | inl here ↦ (let same = by_place f traversed here in inr (f, traversed, same.0, same.1))
-              | inr later ↦ inl (by_other f traversed later)
-            ]
-      ]
+      shown_there b has given = by_either traverses_or
+          (λ none. (inl (by_call none (view_formal_in b.formal (given_owns b.formal (unseen_plain none b.formal (named_has formals actuals b has)) given)))))
+          (λ (f, traversed). (by_either (Has-append_cases (alias.passed_as f (written (first f traversed))) (alias.passed (traversing f traversed).rest ((made f traversed).call).others) b
+          (subst (λ z. Has z b) (λ j. alias.passed ((traversing f traversed).formals j) ((made f traversed).actuals_are j)) has)) (λ here. (let same = by_place f traversed here in inr (f, traversed, same.0, same.1))) (λ later. (inl (by_other f traversed later)))))
         where
           by_place : (f : ℕ) (traversed : traversed_formal s (sub_of program n) ≡ Some f) → Has (alias.passed_as f (written (first f traversed))) b
               → (b.formal ≡ f) × (b.actual.name ≡ traversed_name (made f traversed).call)
@@ -631,13 +628,12 @@ module _ (table : Table) (typed : TypedProgram) (effects : Effects) (input : Lis
               (λ x has. ready.class.modes n of (ap (λ (z : Signature). z.result) (signature_is program n) ∙ is) x (there_formals x has)) copies_allowed
 
       pub clear_there : AreClear s sees facts_now formals actuals
-      clear_there = elim traverses_or [
-        | inl none ↦ clear_plain none
-        | inr (f, traversed) ↦ subst (AreClear s sees facts_now formals) (sym (made f traversed).actuals_are)
-            (subst (λ z. AreClear s sees facts_now z (More (first f traversed) ((made f traversed).call).others)) (sym (traversing f traversed).formals) (
-              (λ given u called_so plain. clear_first f traversed u called_so),
-              all_clear s sees false (traversing f traversed).rest ((made f traversed).call).others facts_now (unseen_others f traversed)
-                  (followed.modes table typed effects input ready inner.state inner.top older outer inner.named inner.p inner.frames inner.of_sub inner.at_point inner.path n actuals result e f traversed)
-                  (subst (λ z. AllowsAll facts_now (acts z)) (true_are f traversed) true_allowed),
-            ))
-      ]
+      clear_there = by_either traverses_or
+          (λ none. (clear_plain none))
+          (λ (f, traversed). (subst (AreClear s sees facts_now formals) (sym (made f traversed).actuals_are)
+          (subst (λ z. AreClear s sees facts_now z (More (first f traversed) ((made f traversed).call).others)) (sym (traversing f traversed).formals) (
+            (λ given u called_so plain. clear_first f traversed u called_so),
+            all_clear s sees false (traversing f traversed).rest ((made f traversed).call).others facts_now (unseen_others f traversed)
+                (followed.modes table typed effects input ready inner.state inner.top older outer inner.named inner.p inner.frames inner.of_sub inner.at_point inner.path n actuals result e f traversed)
+                (subst (λ z. AllowsAll facts_now (acts z)) (true_are f traversed) true_allowed),
+          ))))

@@ -75,6 +75,7 @@ use Rattle.viewed_steps.proofs.CallShows as shows
 use Rattle.viewed_steps.proofs.Supplied.{SuppliesAll}
 use Rattle.viewed_steps.specs.Seeing.{sees_in}
 use Rattle.viewed_steps.proofs.InnerFrame.{InnerFrame}
+use Rattle.soundness.proofs.Parted.{by_either}
 
 same_loan : {l k : Loan} {h b : ℕ} {m q : PlaceName} → Lent l h m ≡ Lent k b q → (l ≡ k) × (m ≡ q)
 same_loan is = (cc, cc)
@@ -355,10 +356,7 @@ module _ (table : Table) (typed : TypedProgram) (effects : Effects) (input : Lis
         -- the variables of its views stay
         word_still : (x i : ℕ) → is_view s x ≡ true
             → (get_or (variable_slots s (home s depth x) x with_all.variables) i no_slot).word ≡ (get_or (variable_slots s (home s depth x) x inner.state.memory.variables) i no_slot).word
-        word_still x i view = elim (declared_there.views (home s depth x) x view) [
-          | inl same ↦ same i
-          | inr shown ↦ absurd (not_up x shown.0)
-        ]
+        word_still x i view = by_either (declared_there.views (home s depth x) x view) (λ same. (same i)) (λ shown. (absurd (not_up x shown.0)))
 
         -- what is moved or taken of package objects isn't used
         kept_unused : (name : PlaceName) → Has (withheld program effects waits_there) (Moved name) → is_package_object s name.root ≡ true → Uses effects n name.root → ⊥
@@ -380,13 +378,12 @@ module _ (table : Table) (typed : TypedProgram) (effects : Effects) (input : Lis
             → word_in s.table (content s with_all [] l) (r ++ q) ≡ ways.Held k → ⊥
         bare_there w l q (taken, top_part) r k held =
             taken_bare s sees cells with_all depth inner.views facts_all next_there (view_here s easy.state) (λ c has. (named_cell c has).reaches) (returns_of formals passed) ways_taken taken_then w l
-            (elim top_part [
-              | inl (c, has, way, is) ↦ (
-                subst (λ z. ways.Reaches (view_here s easy.state) w z) is (subst (λ z. ways.Reaches (view_here s easy.state) z (ways.OfCell c.cell)) way (named_cell c has).reaches),
-                ap steps_in (sym is),
-              )
-              | inr (y, also, way, is) ↦ (subst (λ z. ways.Reaches (view_here s easy.state) z l) way (sym is), ap steps_in (sym is))
-            ]) q taken r k held
+            (by_either top_part
+            (λ (c, has, way, is). (
+              subst (λ z. ways.Reaches (view_here s easy.state) w z) is (subst (λ z. ways.Reaches (view_here s easy.state) z (ways.OfCell c.cell)) way (named_cell c has).reaches),
+              ap steps_in (sym is),
+            ))
+            (λ (y, also, way, is). (subst (λ z. ways.Reaches (view_here s easy.state) z l) way (sym is), ap steps_in (sym is)))) q taken r k held
 
         -- what is shown
         shown_here : (f : Fact) → Has (shown_at program waits_stage) f → IsShownOf s (alias.passed formals actuals) f

@@ -77,6 +77,7 @@ use Rattle.viewed_steps.specs.Seeing.{sees_in}
 use Rattle.viewed_steps.proofs.Constructors.{is_call_instruction, is_held_word}
 use Rattle.viewed_steps.proofs.InnerFrame.{InnerFrame}
 use Rattle.viewed_steps.proofs.Parted.{done_same}
+use Rattle.soundness.proofs.Parted.{by_either}
 
 smaller : (f b low : ℕ) → f < suc b → (f ≡ low → ⊥) → low ≡ b → f < low
 smaller f b low less ne is =
@@ -171,27 +172,25 @@ module _ (table : Table) (typed : TypedProgram) (effects : Effects) (input : Lis
     -- a formal that has a number is copied back
     left_formal : inner.p.instr ≡ Finish → (x : ℕ) (q : List Step) (n : ℕ)
         → word_in s.table (content s inner.state.memory [] (OfRoot (OfVariable depth x))) q ≡ Held n → (r : Return) × Has inner.top.frame.returns r × (r.formal ≡ x)
-    left_formal is x q n held = elim (inner.scope depth x q n held) [
-      | inl less ↦ absurd (omega (arith, less))
-      | inr mine ↦ (
-          let own_formal = ready.passing.finishes inner.named named_there inner.p point_there_now is x (lasting_within s x inner.p.scope mine.1).0 in
-          elim ((inner.running.1).0 x (subst (λ z. Has z x) (sym formals_are) own_formal)) [
-            | inr other_kind ↦ elim other_kind [
-              | inl copied ↦ copied
-              | inr (inl shown) ↦ (
-                  let none = word_dead s.table (content s inner.state.memory [] (OfRoot (OfVariable depth x))) q (ap not shown) in
-                  let no_number : ways.Empty ≡ Held n = sym none ∙ held in absurd (false≢true (ap is_held_word no_number)))
-              | inr (inr plain) ↦ (
-                  let none = word_no s.table (content s inner.state.memory [] (OfRoot (OfVariable depth x))) q
-                  ((keeps s ready.accepted.settled ready.owns).ownerless (object_at s x).of plain q) in
-                  let no_number : ways.Empty ≡ Held n = sym none ∙ held in absurd (false≢true (ap is_held_word no_number)))
-            ]
-            | inl plain_type ↦ (
-                let none = word_no s.table (content s inner.state.memory [] (OfRoot (OfVariable depth x))) q
-                (no_leaf s.table ready.accepted.settled (object_at s x).of plain_type q) in
-                let no_number : ways.Empty ≡ Held n = sym none ∙ held in absurd (false≢true (ap is_held_word no_number)))
-          ])
-    ]
+    left_formal is x q n held = by_either (inner.scope depth x q n held)
+        (λ less. (absurd (omega (arith, less))))
+        (λ mine. (
+        let own_formal = ready.passing.finishes inner.named named_there inner.p point_there_now is x (lasting_within s x inner.p.scope mine.1).0 in
+        by_either ((inner.running.1).0 x (subst (λ z. Has z x) (sym formals_are) own_formal))
+        (λ plain_type. (
+        let none = word_no s.table (content s inner.state.memory [] (OfRoot (OfVariable depth x))) q
+        (no_leaf s.table ready.accepted.settled (object_at s x).of plain_type q) in
+        let no_number : ways.Empty ≡ Held n = sym none ∙ held in absurd (false≢true (ap is_held_word no_number))))
+        (λ other_kind. (elim other_kind [
+          | inl copied ↦ copied
+          | inr (inl shown) ↦ (
+              let none = word_dead s.table (content s inner.state.memory [] (OfRoot (OfVariable depth x))) q (ap not shown) in
+              let no_number : ways.Empty ≡ Held n = sym none ∙ held in absurd (false≢true (ap is_held_word no_number)))
+          | inr (inr plain) ↦ (
+              let none = word_no s.table (content s inner.state.memory [] (OfRoot (OfVariable depth x))) q
+              ((keeps s ready.accepted.settled ready.owns).ownerless (object_at s x).of plain q) in
+              let no_number : ways.Empty ≡ Held n = sym none ∙ held in absurd (false≢true (ap is_held_word no_number)))
+        ]))))
       where
         formals_are : (sub_at s inner.top.frame.sub).formals ≡ inner.named.sub.formals
         formals_are =
@@ -288,26 +287,24 @@ module _ (table : Table) (typed : TypedProgram) (effects : Effects) (input : Lis
       moved_low : (w : Way) → IsMovedBy (home s inner.below.stage.depth) inner.below.views their_facts w
           → (f : ℕ) × (y : ℕ) × (ways.base_of w ≡ OfRoot (OfVariable f y)) × (f < suc inner.below.stage.depth)
       moved_low w (u, moved, leads) =
-          elim (stands (home s inner.below.stage.depth) sees inner.below.views (view_here s inner.state) their_facts waits.views u (moved.0, waits.clear.owned (ways.name_of u) moved.1)) [
-            | inl own ↦ (
-                let named_there : ways.Named (home s inner.below.stage.depth) w = subst (ways.Named (home s inner.below.stage.depth)) leads own.named in (
-                  home s inner.below.stage.depth (number_of w),
-                  number_of w,
-                  named_base (home s inner.below.stage.depth) w named_there,
-                  home_low s inner.below.stage.depth (number_of w),
-                ))
-            | inr held ↦ (
-                let front = ap ways.base_of (sym leads) ∙ base_under held.way (expand inner.below.views u) held.under in
-                elim (waits.holds.lies held.object held.way held.has) [
-                  | inl is_named ↦ (
-                    home s inner.below.stage.depth (number_of held.way),
-                    number_of held.way,
-                    front ∙ named_base (home s inner.below.stage.depth) held.way is_named,
-                    home_low s inner.below.stage.depth (number_of held.way),
-                  )
-                  | inr (foreign, low, some) ↦ (foreign.0, foreign.1, front ∙ foreign.2, omega (arith, low))
-                ])
-          ]
+          by_either (stands (home s inner.below.stage.depth) sees inner.below.views (view_here s inner.state) their_facts waits.views u (moved.0, waits.clear.owned (ways.name_of u) moved.1))
+          (λ own. (
+          let named_there : ways.Named (home s inner.below.stage.depth) w = subst (ways.Named (home s inner.below.stage.depth)) leads own.named in (
+            home s inner.below.stage.depth (number_of w),
+            number_of w,
+            named_base (home s inner.below.stage.depth) w named_there,
+            home_low s inner.below.stage.depth (number_of w),
+          )))
+          (λ held. (
+          let front = ap ways.base_of (sym leads) ∙ base_under held.way (expand inner.below.views u) held.under in
+          by_either (waits.holds.lies held.object held.way held.has)
+          (λ is_named. (
+            home s inner.below.stage.depth (number_of held.way),
+            number_of held.way,
+            front ∙ named_base (home s inner.below.stage.depth) held.way is_named,
+            home_low s inner.below.stage.depth (number_of held.way),
+          ))
+          (λ (foreign, low, some). (foreign.0, foreign.1, front ∙ foreign.2, omega (arith, low)))))
 
       -- what concerns the frame below
       abbrev pub gone_around : Way → Type 0
@@ -365,21 +362,20 @@ module _ (table : Table) (typed : TypedProgram) (effects : Effects) (input : Lis
         | inr (g, inl same_stage, inl moved) ↦ inl (subst (λ (z : ViewStage). IsMovedBy (home s z.stage.depth) z.views (facts_of program effects z.stage) w) (sym same_stage) moved)
         | inr (g, inl same_stage, inr taken) ↦ inr (inr (inl (subst (λ (z : ViewStage). TakenBy z.stage.returns w) (sym same_stage) taken)))
         | inr (g, inr has, what) ↦ inr (inl (g, has, what))
-        | inl (inl (u, moved, leads)) ↦ elim (bool_cases (is_formal s (number_of u) || is_package_object s (number_of u))) [
-          | inl shared ↦ absurd (whole_roots is (ways.name_of u) moved.1 shared)
-          | inr neither ↦ (
-              let same_way : u ≡ w =
-              sym (stands_itself (home s depth) sees (known_gone (home s depth) (λ z. ⊥)) inner.views u moved.0
-              (no_view_left is (number_of u) (first (is_formal s (number_of u)) (is_package_object s (number_of u)) neither)) (no_part_left (number_of u) (first (is_formal s (number_of u)) (is_package_object s (number_of u)) neither))) ∙ leads in
-              inr (inr (inr (
-                number_of w,
-                own_base w (subst (ways.Named (home s depth)) same_way moved.0)
-                    (second (is_formal s (number_of w)) (is_package_object s (number_of w)) (ap (λ z. is_formal s (number_of z) || is_package_object s (number_of z)) (sym same_way) ∙ neither)),
-                λ r has formal. true_false (is_formal s r.formal) ((inner.running.1).1 r has)
-                    (ap (is_formal s) formal
-                    ∙ first (is_formal s (number_of w)) (is_package_object s (number_of w)) (ap (λ z. is_formal s (number_of z) || is_package_object s (number_of z)) (sym same_way) ∙ neither)),
-              ))))
-        ]
+        | inl (inl (u, moved, leads)) ↦ by_either (bool_cases (is_formal s (number_of u) || is_package_object s (number_of u)))
+            (λ shared. (absurd (whole_roots is (ways.name_of u) moved.1 shared)))
+            (λ neither. (
+            let same_way : u ≡ w =
+            sym (stands_itself (home s depth) sees (known_gone (home s depth) (λ z. ⊥)) inner.views u moved.0
+            (no_view_left is (number_of u) (first (is_formal s (number_of u)) (is_package_object s (number_of u)) neither)) (no_part_left (number_of u) (first (is_formal s (number_of u)) (is_package_object s (number_of u)) neither))) ∙ leads in
+            inr (inr (inr (
+              number_of w,
+              own_base w (subst (ways.Named (home s depth)) same_way moved.0)
+                  (second (is_formal s (number_of w)) (is_package_object s (number_of w)) (ap (λ z. is_formal s (number_of z) || is_package_object s (number_of z)) (sym same_way) ∙ neither)),
+              λ r has formal. true_false (is_formal s r.formal) ((inner.running.1).1 r has)
+                  (ap (is_formal s) formal
+                  ∙ first (is_formal s (number_of w)) (is_package_object s (number_of w)) (ap (λ z. is_formal s (number_of z) || is_package_object s (number_of z)) (sym same_way) ∙ neither)),
+            )))))
       ]
         where
           first : (a b : Bool) → a || b ≡ false → a ≡ false
@@ -438,14 +434,13 @@ module _ (table : Table) (typed : TypedProgram) (effects : Effects) (input : Lis
         depths = sym deep_low
 
         nothing_mid : (x : ℕ) (q : List Step) (n : ℕ) → word_in s.table (content s mid (waiting_in inner.state) (OfRoot (OfVariable depth x))) q ≡ Held n → ⊥
-        nothing_mid x q n held = elim (on.held depth x q n held) [
-          | inr same_low ↦ (let a = same_low.0 in let b = home_low s low x in let c = low_is in omega (arith, a, b, c))
-          | inl before ↦ (
-              let copied = left_formal is x q n before in
-              on.empty copied.0 copied.1 q n
-              (subst (λ f. word_in s.table (content s mid [] (OfRoot (OfVariable f (copied.0).formal))) q ≡ Held n) (sym depths)
-              (subst (λ y. word_in s.table (content s mid [] (OfRoot (OfVariable depth y))) q ≡ Held n) (sym copied.2) held)))
-        ]
+        nothing_mid x q n held = by_either (on.held depth x q n held)
+            (λ before. (
+            let copied = left_formal is x q n before in
+            on.empty copied.0 copied.1 q n
+            (subst (λ f. word_in s.table (content s mid [] (OfRoot (OfVariable f (copied.0).formal))) q ≡ Held n) (sym depths)
+            (subst (λ y. word_in s.table (content s mid [] (OfRoot (OfVariable depth y))) q ≡ Held n) (sym copied.2) held))))
+            (λ same_low. (let a = same_low.0 in let b = home_low s low x in let c = low_is in omega (arith, a, b, c)))
 
         abbrev left_memory : Memory
         left_memory = without_frame depth mid
@@ -700,12 +695,11 @@ module _ (table : Table) (typed : TypedProgram) (effects : Effects) (input : Lis
             none_above = above_left;
             traversals = (
               (
-                elim (inner.above.1).0.1 [
-                  | inl none ↦ none_given table typed (view_here s left_state) (record { stage = inner.below.stage; views = inner.below.views; cells = [] }) none
-                  | inr (some, returned, none_back, was) ↦ λ other_named other_of q at_q w others same_first seen_there.
-                      given_again s inner.below.stage.depth inner.below.views q.instr (view_here s inner.state) (view_here s left_state) w (was other_named other_of q at_q w others same_first seen_there)
-                      (λ u same_way k reach. reach_on u k (subst (λ z. ways.Reaches (seen s z (waiting_in inner.state) inner.state.leaks) u (ways.OfCell k)) (sym (same_mid none_back)) reach))
-                ],
+                by_either (inner.above.1).0.1
+                    (λ none. (none_given table typed (view_here s left_state) (record { stage = inner.below.stage; views = inner.below.views; cells = [] }) none))
+                    (λ (some, returned, none_back, was). (λ other_named other_of q at_q w others same_first seen_there.
+                    given_again s inner.below.stage.depth inner.below.views q.instr (view_here s inner.state) (view_here s left_state) w (was other_named other_of q at_q w others same_first seen_there)
+                    (λ u same_way k reach. reach_on u k (subst (λ z. ways.Reaches (seen s z (waiting_in inner.state) inner.state.leaks) u (ways.OfCell k)) (sym (same_mid none_back)) reach)))),
                 inl (none_in same_more).0,
                 (none_in same_more).1,
               ),

@@ -96,6 +96,7 @@ use Rattle.viewed_steps.specs.Seeing.{sees_in}
 use Rattle.viewed_steps.proofs.Sees.{sees_seeing}
 use Rattle.viewed_steps.proofs.Constructors.{is_end_scope_instruction, is_finish_instruction}
 use Rattle.viewed_steps.proofs.InnerFrame.{InnerFrame}
+use Rattle.soundness.proofs.Parted.{by_either}
 
 module _ (table : Table) (typed : TypedProgram) (effects : Effects) (input : List ℕ) (ready : IsReady table typed effects) where
   abbrev sees : ℕ → Bool
@@ -390,7 +391,7 @@ module _ (table : Table) (typed : TypedProgram) (effects : Effects) (input : Lis
         -- what one is lent that changes what it sees
         lent_changed : (x : ℕ) → Has formals x → is_given s x ≡ true → sees x ≡ false → (m : Written) → IsNameOf formals actuals x m
             → IsLentAs s sees facts_now (alias.passed formals actuals) x m
-        lent_changed x has is changes m of = elim by_callee [ inl modes ↦ modes.2 x has is changes m of | inr lent ↦ lent x has is (changed_bare x changes) m of ]
+        lent_changed x has is changes m of = by_either by_callee (λ modes. (modes.2 x has is changes m of)) (λ lent. (lent x has is (changed_bare x changes) m of))
 
         from_changed : (x : ℕ) (w : Way) → callee_views.way x ≡ Some w → sees x ≡ false → IsFrom s sees depth inner.views facts_now (alias.passed formals actuals) x w
         from_changed x w has changes = (let found = opened.1.way x w has in from_lent x w has (lent_changed x found.1 found.0 changes))
@@ -407,11 +408,10 @@ module _ (table : Table) (typed : TypedProgram) (effects : Effects) (input : Lis
         meets_taken : (y : ℕ) (w : Way) → callee_views.way y ≡ Some w → (to : Way) → Has ways_taken to → Meet w to → ⊥
         meets_taken y w has to taken meets =
             let by = all_passed_ways.2 to taken in
-            elim by_callee [
-              | inl modes ↦ modes.1 by.by.formal (passed_formal formals actuals by.by by.among) by.back
-              | inr lent ↦ from_place s sees depth inner.views facts_now (alias.passed formals actuals) y w (from_there lent y w has) around_names (still (view_here s easy.state)) facts_all names_all less_now
-                  by.by by.among by.back by.name by.called by.named by.plain by.unlent (subst (Meet w) (sym by.means) meets)
-            ]
+            by_either by_callee
+            (λ modes. (modes.1 by.by.formal (passed_formal formals actuals by.by by.among) by.back))
+            (λ lent. (from_place s sees depth inner.views facts_now (alias.passed formals actuals) y w (from_there lent y w has) around_names (still (view_here s easy.state)) facts_all names_all less_now
+            by.by by.among by.back by.name by.called by.named by.plain by.unlent (subst (Meet w) (sym by.means) meets)))
 
         -- nothing of what is shown to one is moved or borrowed
         unborrowed : (y : ℕ) (w : Way) (to : IsSeenFrom s depth inner.views (alias.passed formals actuals) y w) → sees to.actual.name.root ≡ false → Unborrowed facts_now to.from
@@ -519,49 +519,45 @@ module _ (table : Table) (typed : TypedProgram) (effects : Effects) (input : Lis
         excused_called : (z : Way) → GoneElsewhere program effects (waits_there ∷ older) z → ExcusedBy (home s depth) inner.views other facts_now z ⊎ TakenBy ways_taken z
         excused_called z (g, inr has, what) =
             inl (elsewhere_excused table typed effects unmoved_stage local inner.state depth older between inner.views own_facts z (g, has, what))
-        excused_called z (g, inl same, what) = elim (subst (λ (y : ViewStage). IsMovedBy (home s y.stage.depth) y.views (facts_of program effects y.stage) z ⊎ TakenBy y.stage.returns z) (sym same) what) [
-          | inr taken ↦ inr taken
-          | inl (u, moved, leads) ↦ inl (inl (inl (
-            u,
-            (
-              subst (λ d. ways.Named (home s d) u) inner.deep moved.0,
-              Has-append_left own_facts handed_on (Moved (ways.name_of u))
-                  (subst (λ fs. Has fs (Moved (ways.name_of u))) (standing.facts_are table typed effects input ready inner.state inner.top older outer inner.named inner.p inner.frames inner.of_sub inner.at_point inner.path)
-                  (none_new (Moved (ways.name_of u)) moved.1)),
-            ),
-            leads,
-          )))
-        ]
+        excused_called z (g, inl same, what) = by_either (subst (λ (y : ViewStage). IsMovedBy (home s y.stage.depth) y.views (facts_of program effects y.stage) z ⊎ TakenBy y.stage.returns z) (sym same) what)
+            (λ (u, moved, leads). (inl (inl (inl (
+              u,
+              (
+                subst (λ d. ways.Named (home s d) u) inner.deep moved.0,
+                Has-append_left own_facts handed_on (Moved (ways.name_of u))
+                    (subst (λ fs. Has fs (Moved (ways.name_of u))) (standing.facts_are table typed effects input ready inner.state inner.top older outer inner.named inner.p inner.frames inner.of_sub inner.at_point inner.path)
+                    (none_new (Moved (ways.name_of u)) moved.1)),
+              ),
+              leads,
+            )))))
+            (λ taken. (inr taken))
 
         callee_whole : (x : ℕ) (w z : Way) → callee_views.way x ≡ Some w → GoneElsewhere program effects (waits_there ∷ older) z → ways.Under z w ⊎ ways.Under w z → ⊥
-        callee_whole x w z has gone meets = elim (excused_called z gone) [
-          | inl excused ↦ opened_whole (steps.here main_turn) sees seeing ready.accepted.settled (waiting_in easy.state) inner.state.leaks inner.state.memory [] other facts_now inner.views (viewed_easy plain_there.0).1
-              (viewed_easy plain_there.0).0 holds_now alone live_now in_formals index_law ready.owns ready.class.parts_named formals_low procedure formals actuals passed callee_views opened.1
-              (ExcusedBy (home s depth) inner.views other facts_now) (λ y is. is) x w z has excused meets
-          | inr (to, taken, steps_on, is) ↦ meets_taken x w has to taken
-              (meets_front to z w (subst (ways.Under to) (sym is) (under_along to to steps_on (under_itself to))) (flip z w meets))
-        ]
+        callee_whole x w z has gone meets = by_either (excused_called z gone)
+            (λ excused. (opened_whole (steps.here main_turn) sees seeing ready.accepted.settled (waiting_in easy.state) inner.state.leaks inner.state.memory [] other facts_now inner.views (viewed_easy plain_there.0).1
+            (viewed_easy plain_there.0).0 holds_now alone live_now in_formals index_law ready.owns ready.class.parts_named formals_low procedure formals actuals passed callee_views opened.1
+            (ExcusedBy (home s depth) inner.views other facts_now) (λ y is. is) x w z has excused meets))
+            (λ (to, taken, steps_on, is). (meets_taken x w has to taken
+            (meets_front to z w (subst (ways.Under to) (sym is) (under_along to to steps_on (under_itself to))) (flip z w meets))))
 
         parts_whole : (x : ℕ) (q : List Step) (w z : Way) → callee_views.part_way x q ≡ Some w → GoneElsewhere program effects (waits_there ∷ older) z
             → ways.Under z w ⊎ ways.Under w z → ⊥
-        parts_whole x q w z has gone meets = elim (excused_called z gone) [
-          | inl excused ↦ opened_parts_whole (steps.here main_turn) sees seeing ready.accepted.settled (waiting_in easy.state) inner.state.leaks inner.state.memory [] other facts_now inner.views (viewed_easy plain_there.0).1
-              (viewed_easy plain_there.0).0 holds_now alone live_now in_formals index_law ready.owns ready.class.parts_named formals_low procedure formals actuals passed callee_views opened.1
-              (ExcusedBy (home s depth) inner.views other facts_now) (λ y is. is) x q w z has excused meets
-          | inr (to, taken, steps_on, is) ↦ meets_taken_part x q w has to taken
-              (meets_front to z w (subst (ways.Under to) (sym is) (under_along to to steps_on (under_itself to))) (flip z w meets))
-        ]
+        parts_whole x q w z has gone meets = by_either (excused_called z gone)
+            (λ excused. (opened_parts_whole (steps.here main_turn) sees seeing ready.accepted.settled (waiting_in easy.state) inner.state.leaks inner.state.memory [] other facts_now inner.views (viewed_easy plain_there.0).1
+            (viewed_easy plain_there.0).0 holds_now alone live_now in_formals index_law ready.owns ready.class.parts_named formals_low procedure formals actuals passed callee_views opened.1
+            (ExcusedBy (home s depth) inner.views other facts_now) (λ y is. is) x q w z has excused meets))
+            (λ (to, taken, steps_on, is). (meets_taken_part x q w has to taken
+            (meets_front to z w (subst (ways.Under to) (sym is) (under_along to to steps_on (under_itself to))) (flip z w meets))))
 
         -- what its views see that begins at package objects is kept by the frames around
         shared_from : (x : ℕ) (w : Way) (to : IsSeenFrom s depth inner.views (alias.passed formals actuals) x w) → (sees x ≡ false → sees to.actual.name.root ≡ false)
             → IsLow s depth w → ways.Named (home s (suc depth)) w → IsShared (home s (suc depth)) (LentBy program effects (waits_there ∷ older)) (sees x) w
-        shared_from x w to plain low named_there = elim (low_there s depth w (omega (arith)) low) [
-          | inl far ↦ absurd (not_elsewhere (home s (suc depth)) w named_there far.0)
-          | inr (at_home, shared_root) ↦ shows.shared_at table typed effects input ready inner n actuals result e passed given
-              (record { formal = x; actual = to.actual }) to.of to.given to.from to.named to.called to.there to.begins to.goes
-              (λ changes. ap (λ (z : PlaceName). sees z.root) (sym to.called) ∙ plain changes)
-              w to.leads (package_named s (suc depth) depth w shared_root named_there) shared_root
-        ]
+        shared_from x w to plain low named_there = by_either (low_there s depth w (omega (arith)) low)
+            (λ far. (absurd (not_elsewhere (home s (suc depth)) w named_there far.0)))
+            (λ (at_home, shared_root). (shows.shared_at table typed effects input ready inner n actuals result e passed given
+            (record { formal = x; actual = to.actual }) to.of to.given to.from to.named to.called to.there to.begins to.goes
+            (λ changes. ap (λ (z : PlaceName). sees z.root) (sym to.called) ∙ plain changes)
+            w to.leads (package_named s (suc depth) depth w shared_root named_there) shared_root))
 
         callee_shared : AreShared (home s (suc depth)) sees (LentBy program effects (waits_there ∷ older)) callee_views
         callee_shared = (
@@ -625,17 +621,13 @@ module _ (table : Table) (typed : TypedProgram) (effects : Effects) (input : Lis
             of_sub = called.runs.stands;
             point = called.runs.point;
             at_point = ([], called.runs.points, called.runs.begins, refl);
-            scope = λ f x q k held. elim (declared_there.held f x q k held) [
-              | inl before ↦ elim (inner.scope f x q k before) [
-                | inl less ↦ inl (omega (arith, less))
-                | inr mine ↦ (let is = mine.0 in inl (omega (arith, is)))
-              ]
-              | inr mine ↦ inr (
-                mine.0,
-                within_lasting s x called.runs.point.scope (called.begins x mine.1 (ap (λ b. b || is_anonymous (view_of s x)) (owns_there s ready.accepted.settled ready.owns with_all f x q k held)))
-                    (plain_unheld s x (formal_lasts (object_at s x).kind (called.formals x mine.1))),
-              )
-            ];
+            scope = λ f x q k held. by_either (declared_there.held f x q k held)
+                (λ before. (by_either (inner.scope f x q k before) (λ less. (inl (omega (arith, less)))) (λ mine. (let is = mine.0 in inl (omega (arith, is))))))
+                (λ mine. (inr (
+                  mine.0,
+                  within_lasting s x called.runs.point.scope (called.begins x mine.1 (ap (λ b. b || is_anonymous (view_of s x)) (owns_there s ready.accepted.settled ready.owns with_all f x q k held)))
+                      (plain_unheld s x (formal_lasts (object_at s x).kind (called.formals x mine.1))),
+                )));
             holds = record {
               held = λ x k lasts view bare at. callee_held x k view bare at;
               within = λ x k view bare at. (let own_way = callee_held x k view bare at in (callee_placed x own_way.0 own_way.1).within);
@@ -656,14 +648,12 @@ module _ (table : Table) (typed : TypedProgram) (effects : Effects) (input : Lis
             placed = callee_placed;
             past = (callee_past, callee_shared);
             none_above = (
-              λ f x k less view at. elim (declared_there.views f x view) [
-                | inl same ↦ (inner.above.0).0 f x k (omega (arith, less)) view (sym (same 0) ∙ at)
-                | inr shown ↦ (let up = shown.0 in omega (arith, less, up))
-              ],
-              λ f x i k less bundle at. elim (declared_there.views f x (bundle_view s x bundle)) [
-                | inl same ↦ (inner.above.0).1 f x i k (omega (arith, less)) bundle (sym (same i) ∙ at)
-                | inr shown ↦ (let up = shown.0 in omega (arith, less, up))
-              ],
+              λ f x k less view at. by_either (declared_there.views f x view)
+                  (λ same. ((inner.above.0).0 f x k (omega (arith, less)) view (sym (same 0) ∙ at)))
+                  (λ shown. (let up = shown.0 in omega (arith, less, up))),
+              λ f x i k less bundle at. by_either (declared_there.views f x (bundle_view s x bundle))
+                  (λ same. ((inner.above.0).1 f x i k (omega (arith, less)) bundle (sym (same i) ∙ at)))
+                  (λ shown. (let up = shown.0 in omega (arith, less, up))),
             );
             traversals = (
               (

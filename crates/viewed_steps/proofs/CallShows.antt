@@ -76,6 +76,7 @@ use Rattle.viewed_steps.proofs.Roots.{view_goes}
 use Rattle.viewed_steps.specs.Seeing.{sees_in}
 use Rattle.viewed_steps.proofs.Constructors.{is_borrowed_loan}
 use Rattle.viewed_steps.proofs.InnerFrame.{InnerFrame}
+use Rattle.soundness.proofs.Parted.{by_either}
 
 -- ---- what is known of an actual that is shown
 
@@ -274,18 +275,17 @@ module _ (table : Table) (typed : TypedProgram) (effects : Effects) (input : Lis
       -- the frame names it, and changes it where it is lent to be changed
       pub shown_used : (b : alias.Passed) → Has passed_all b → is_given s b.formal ≡ true → is_package_object s b.actual.name.root ≡ true
           → Uses effects inner.top.frame.sub b.actual.name.root × (lent_to s b.formal ≡ Borrowed → Has (written_by effects inner.top.frame.sub) b.actual.name.root)
-      shown_used b has given shared = elim (acting.shown_there table typed effects input ready inner n actuals result e b has given) [
-        | inl plain ↦ by_call plain
-        | inr (f, traversed, first_is, name_is) ↦ (
-            let root : b.actual.name.root ≡ ((acting.made table typed effects input ready inner n actuals result e f traversed).call).root = ap (λ (m : PlaceName). m.root) name_is in
-            let shared_there = ap (is_package_object s) (sym root) ∙ shared in (
-              subst (Uses effects inner.top.frame.sub) (sym root) (acting.uses_first table typed effects input ready inner n actuals result e f traversed shared_there),
-              λ borrowed. absurd (true_false (is_exclusive s b.formal) (lent_exclusive b.formal borrowed)
-                  (function_sees (acting.traversing table typed effects input ready inner n actuals result e f traversed).of
-                  (acting.traversing table typed effects input ready inner n actuals result e f traversed).result
-                  b has given)),
-            ))
-      ]
+      shown_used b has given shared = by_either (acting.shown_there table typed effects input ready inner n actuals result e b has given)
+          (λ plain. (by_call plain))
+          (λ (f, traversed, first_is, name_is). (
+          let root : b.actual.name.root ≡ ((acting.made table typed effects input ready inner n actuals result e f traversed).call).root = ap (λ (m : PlaceName). m.root) name_is in
+          let shared_there = ap (is_package_object s) (sym root) ∙ shared in (
+            subst (Uses effects inner.top.frame.sub) (sym root) (acting.uses_first table typed effects input ready inner n actuals result e f traversed shared_there),
+            λ borrowed. absurd (true_false (is_exclusive s b.formal) (lent_exclusive b.formal borrowed)
+                (function_sees (acting.traversing table typed effects input ready inner n actuals result e f traversed).of
+                (acting.traversing table typed effects input ready inner n actuals result e f traversed).result
+                b has given)),
+          )))
         where
           writes_then : (m : PlaceName) (access : Bool) → access ≡ true → act_writes m.root (act.Actual m mode.In true access) ≡ true
           writes_then m access is = (λ j. eq-eqb m.root m.root refl j && is j)
@@ -303,13 +303,12 @@ module _ (table : Table) (typed : TypedProgram) (effects : Effects) (input : Lis
                     b.actual.name.root shared main_turn.point in_sub plain.placed in_point
                     (subst (λ z. (act_writes b.actual.name.root z ≡ true) ⊎ (act_reads b.actual.name.root z ≡ true)) (sym plain.is)
                     (writes_or_reads b.actual.name (procedure && is_named_access (view_of s b.formal)))),
-                λ borrowed. elim by_answer [
-                  | inr (t, is) ↦ absurd (true_false (is_exclusive s b.formal) (lent_exclusive b.formal borrowed) (function_sees t is b has given))
-                  | inl is ↦ innermost.act_writes_it table typed effects input ready inner
-                      b.actual.name.root shared main_turn.point in_sub plain.placed in_point
-                      (subst (λ z. act_writes b.actual.name.root z ≡ true) (sym plain.is)
-                      (writes_then b.actual.name (procedure && is_named_access (view_of s b.formal)) (λ j. not (is_some (is j)) && formal_named b has plain.formal (exclusive_bare b.formal (lent_exclusive b.formal borrowed)) is j)))
-                ],
+                λ borrowed. by_either by_answer
+                    (λ is. (innermost.act_writes_it table typed effects input ready inner
+                    b.actual.name.root shared main_turn.point in_sub plain.placed in_point
+                    (subst (λ z. act_writes b.actual.name.root z ≡ true) (sym plain.is)
+                    (writes_then b.actual.name (procedure && is_named_access (view_of s b.formal)) (λ j. not (is_some (is j)) && formal_named b has plain.formal (exclusive_bare b.formal (lent_exclusive b.formal borrowed)) is j)))))
+                    (λ (t, is). (absurd (true_false (is_exclusive s b.formal) (lent_exclusive b.formal borrowed) (function_sees t is b has given)))),
               )
 
       -- nothing that the frame knows as moved or borrowed overlaps what is observed
@@ -435,13 +434,9 @@ module _ (table : Table) (typed : TypedProgram) (effects : Effects) (input : Lis
             → (sees b.formal ≡ false → sees (ways.number_of from) ≡ false)
             → (w : Way) → w ≡ expand inner.views there → ways.Named (home s depth) w → is_package_object s (ways.number_of w) ≡ true
             → IsShared (home s next) LentAround (sees b.formal) w
-        shared_at b has is_given_formal from at_home named_so there begins_there goes plain w leads w_home shared = elim (bool_cases (is_view s (ways.number_of from))) [
-          | inr owner ↦ by_owner (no_way owner) (no_parts owner)
-          | inl view ↦ elim (bool_cases (is_bundle s (ways.number_of from))) [
-            | inr bare ↦ by_view (goes.0 bare view)
-            | inl bundle ↦ by_part bundle (goes.1 bundle)
-          ]
-        ]
+        shared_at b has is_given_formal from at_home named_so there begins_there goes plain w leads w_home shared = by_either (bool_cases (is_view s (ways.number_of from)))
+            (λ view. (by_either (bool_cases (is_bundle s (ways.number_of from))) (λ bundle. (by_part bundle (goes.1 bundle))) (λ bare. (by_view (goes.0 bare view)))))
+            (λ owner. (by_owner (no_way owner) (no_parts owner)))
           where
             root_there : ways.number_of there ≡ ways.number_of from
             root_there = (longer from there begins_there).root
@@ -467,11 +462,10 @@ module _ (table : Table) (typed : TypedProgram) (effects : Effects) (input : Lis
                 let f : Fact = Lent (lent_to s b.formal) b.formal b.actual.name in
                 let shown : Has (shown_at program waits_there.stage) f =
                 subst (λ z. Has z f) (sym (shown_is waits_there.stage.returns)) (all_shown s passed_all b has is_given_formal root) in
-                elim (known_lent f from w (Has-append_right (facts_of program effects waits_there.stage) (shown_at program waits_there.stage) f shown) named_so at_home
-                (subst (ways.Under from) (sym itself) begins_there) shared) [
-                  | inl through ↦ (lent_to s b.formal, through, λ changes. lent_changed b.formal is_given_formal changes)
-                  | inr through ↦ (Borrowed, through, λ changes. refl)
-                ]
+                by_either (known_lent f from w (Has-append_right (facts_of program effects waits_there.stage) (shown_at program waits_there.stage) f shown) named_so at_home
+                (subst (ways.Under from) (sym itself) begins_there) shared)
+                (λ through. (lent_to s b.formal, through, λ changes. lent_changed b.formal is_given_formal changes))
+                (λ through. (Borrowed, through, λ changes. refl))
 
             further : (loan : Loan) (k : Way) → ways.Under k w → IsThrough (home s next) LentAround loan k → IsThrough (home s next) LentAround loan w
             further loan k under (q, q_home, above_k, lent) = (q, q_home, under_on q k w above_k under, lent)
@@ -494,18 +488,14 @@ module _ (table : Table) (typed : TypedProgram) (effects : Effects) (input : Lis
                 let (loan, goes, changed) = view_goes (home s depth) sees inner.views (view_here s inner.state) (facts_of program effects inner.top) inner.viewed_before.views
                 (LentBy program effects older) inner.placed_before.1.1 l.object l.way l.has l_home in
                 let changes_so : sees b.formal ≡ false → loan ≡ Borrowed = λ changes. changed (ap sees object_is ∙ plain changes) in
-                elim goes [
-                  | inr through ↦ (loan, further loan l.way under (older_lent loan l.way through), changes_so)
-                  | inl (holder, k, fact, k_home, k_under) ↦ (
-                      let called_fact : Has facts_called (Lent loan holder (ways.name_of k)) =
-                      loans_stay s (acting.values table typed effects input ready inner n actuals result e ++ acting.copies table typed effects input ready inner n actuals result e) (acting.spare_call table typed effects input ready inner n actuals result e)
-                      own_facts loan holder (ways.name_of k)
-                      (subst (λ fs. Has fs (Lent loan holder (ways.name_of k))) (standing.facts_are table typed effects input ready inner.state inner.top older outer inner.named inner.p inner.frames inner.of_sub inner.at_point inner.path) fact) in
-                      elim (known_lent (Lent loan holder (ways.name_of k)) k w
-                      (Has-append_left (facts_of program effects waits_there.stage) (shown_at program waits_there.stage) (Lent loan holder (ways.name_of k))
-                      (subst (λ fs. Has fs (Lent loan holder (ways.name_of k))) (sym (calling.facts_there table typed effects input ready inner n actuals result e)) called_fact))
-                      refl k_home (under_on k l.way w k_under under) shared) [
-                        | inl through ↦ (loan, through, changes_so)
-                        | inr through ↦ (Borrowed, through, λ changes. refl)
-                      ])
-                ]
+                by_either goes
+                (λ (holder, k, fact, k_home, k_under). (
+                let called_fact : Has facts_called (Lent loan holder (ways.name_of k)) =
+                loans_stay s (acting.values table typed effects input ready inner n actuals result e ++ acting.copies table typed effects input ready inner n actuals result e) (acting.spare_call table typed effects input ready inner n actuals result e)
+                own_facts loan holder (ways.name_of k)
+                (subst (λ fs. Has fs (Lent loan holder (ways.name_of k))) (standing.facts_are table typed effects input ready inner.state inner.top older outer inner.named inner.p inner.frames inner.of_sub inner.at_point inner.path) fact) in
+                by_either (known_lent (Lent loan holder (ways.name_of k)) k w
+                (Has-append_left (facts_of program effects waits_there.stage) (shown_at program waits_there.stage) (Lent loan holder (ways.name_of k))
+                (subst (λ fs. Has fs (Lent loan holder (ways.name_of k))) (sym (calling.facts_there table typed effects input ready inner n actuals result e)) called_fact))
+                refl k_home (under_on k l.way w k_under under) shared) (λ through. (loan, through, changes_so)) (λ through. (Borrowed, through, λ changes. refl))))
+                (λ through. (loan, further loan l.way under (older_lent loan l.way through), changes_so))

@@ -75,7 +75,7 @@ use Rattle.viewed_steps.proofs.Calling as calling
 use Rattle.viewed_steps.specs.Seeing.{sees_in}
 use Rattle.viewed_steps.proofs.Sees.{sees_seeing}
 use Rattle.viewed_steps.proofs.InnerFrame.{InnerFrame}
-use Rattle.soundness.proofs.Parted.{hand_variable}
+use Rattle.soundness.proofs.Parted.{hand_variable, by_either}
 
 module _ (table : Table) (typed : TypedProgram) (effects : Effects) (input : List ℕ) (ready : IsReady table typed effects) where
   abbrev sees : ℕ → Bool
@@ -297,24 +297,23 @@ module _ (table : Table) (typed : TypedProgram) (effects : Effects) (input : Lis
                   let goes_there : to ≡ on lift.way lift.rest = sym by.means ∙ lifted_way inner.views by.name lift in
                   let whole : ways.Named (home s depth) to = base_named (home s depth) to y own in
                   let front : ways.Named (home s depth) lift.way = on_named (home s depth) lift.way lift.rest (subst (ways.Named (home s depth)) goes_there whole) in
-                  inr (elim (borrower_from (home s depth) sees inner.views (view_here s easy.state) facts_called views_called lift.object lift.way
-                  (ap sees (sym (lifted_root inner.views by.name lift)) ∙ by.plain) lift.has) [
-                    | inl goes ↦ inl (
-                      goes.0,
-                      ways.name_of goes.1,
-                      goes.2,
-                      sym (longer goes.1 lift.way goes.4).root
-                          ∙ number_based (home s depth) lift.way y front (sym (base_on lift.way lift.rest) ∙ ap ways.base_of (sym goes_there) ∙ own),
-                    )
-                    | inr (x, u, is, given, sight, under) ↦ inr (
-                      x,
-                      u,
-                      is,
-                      given,
-                      sight,
-                      subst (ways.Under u) (sym goes_there) (under_on u lift.way (on lift.way lift.rest) under (on_under lift.way lift.rest)),
-                    )
-                  ]))
+                  inr (by_either (borrower_from (home s depth) sees inner.views (view_here s easy.state) facts_called views_called lift.object lift.way
+                  (ap sees (sym (lifted_root inner.views by.name lift)) ∙ by.plain) lift.has)
+                  (λ goes. (inl (
+                    goes.0,
+                    ways.name_of goes.1,
+                    goes.2,
+                    sym (longer goes.1 lift.way goes.4).root
+                        ∙ number_based (home s depth) lift.way y front (sym (base_on lift.way lift.rest) ∙ ap ways.base_of (sym goes_there) ∙ own),
+                  )))
+                  (λ (x, u, is, given, sight, under). (inr (
+                    x,
+                    u,
+                    is,
+                    given,
+                    sight,
+                    subst (ways.Under u) (sym goes_there) (under_on u lift.way (on lift.way lift.rest) under (on_under lift.way lift.rest)),
+                  )))))
             ]
 
         pub goes_to : (to : Way) → Has ways_taken to → (y : ℕ) → ways.base_of to ≡ ways.OfRoot (ways.OfVariable 0 y) → is_package_object s y ≡ true
@@ -386,16 +385,14 @@ module _ (table : Table) (typed : TypedProgram) (effects : Effects) (input : Lis
 
         -- so it is with each object of which a part is passed
         pub root_written : (y : ℕ) → Has (passed_roots effects waits_there) y → is_package_object s y ≡ true → Has (written_by effects inner.top.frame.sub) y
-        root_written y passed shared = elim (passed_from effects waits_there y passed) [
-          | inl (to, has, base, written) ↦ written
-          | inr (c, has, is) ↦ subst (Has (written_by effects inner.top.frame.sub)) is (written_cell c has (ap (is_package_object s) is ∙ shared))
-        ]
+        root_written y passed shared = by_either (passed_from effects waits_there y passed)
+            (λ (to, has, base, written). (written))
+            (λ (c, has, is). (subst (Has (written_by effects inner.top.frame.sub)) is (written_cell c has (ap (is_package_object s) is ∙ shared))))
 
         pub root_unused : (y : ℕ) → Has (passed_roots effects waits_there) y → is_package_object s y ≡ true → Uses effects n y → ⊥
-        root_unused y passed shared uses = elim (passed_from effects waits_there y passed) [
-          | inl (to, has, base, written) ↦ unused_to to has y base shared written uses
-          | inr (c, has, is) ↦ unused_cell c has (ap (is_package_object s) is ∙ shared) (subst (Uses effects n) (sym is) uses)
-        ]
+        root_unused y passed shared uses = by_either (passed_from effects waits_there y passed)
+            (λ (to, has, base, written). (unused_to to has y base shared written uses))
+            (λ (c, has, is). (unused_cell c has (ap (is_package_object s) is ∙ shared) (subst (Uses effects n) (sym is) uses)))
 
         -- no place that is taken goes before what a view sees
         pub off_taken : (x : ℕ) (w : Way) → inner.views.way x ≡ Some w → (to : Way) → Has ways_taken to → ways.Past to w → ⊥
@@ -431,16 +428,15 @@ module _ (table : Table) (typed : TypedProgram) (effects : Effects) (input : Lis
 
         pub part_base : (x : ℕ) (q : List Step) (w : Way) → inner.views.part_way x q ≡ Some w
             → (g : ℕ) × (y : ℕ) × (ways.base_of w ≡ ways.OfRoot (ways.OfVariable g y)) × (g ≡ suc depth → ⊥)
-        part_base x q w has = elim (inner.holds.low x q w has).0 [
-          | inl at_home ↦ (
-            home s depth (ways.number_of w),
-            ways.number_of w,
-            named_base (home s depth) w at_home,
-            not_above s sees ready.accepted.settled ready.owns in_formals (waiting_in easy.state) inner.state.leaks depth inner.views far_views (inner.holds.only, inner.holds.parts.only) facts_all next_there cells
-                (ways.number_of w),
-          )
-          | inr (foreign, low, some) ↦ (foreign.0, foreign.1, foreign.2, λ up. omega (arith, low, up))
-        ]
+        part_base x q w has = by_either (inner.holds.low x q w has).0
+            (λ at_home. (
+              home s depth (ways.number_of w),
+              ways.number_of w,
+              named_base (home s depth) w at_home,
+              not_above s sees ready.accepted.settled ready.owns in_formals (waiting_in easy.state) inner.state.leaks depth inner.views far_views (inner.holds.only, inner.holds.parts.only) facts_all next_there cells
+                  (ways.number_of w),
+            ))
+            (λ (foreign, low, some). (foreign.0, foreign.1, foreign.2, λ up. omega (arith, low, up)))
 
         -- the frames around keep nothing of what the frame writes
         written_spared : (y : ℕ) → Has (written_by effects inner.top.frame.sub) y → IsSpared table typed effects unmoved_stage local inner.state depth older between y
@@ -473,13 +469,12 @@ module _ (table : Table) (typed : TypedProgram) (effects : Effects) (input : Lis
 
         pub open_there : IsOpen (IsMovedBy (home s depth) inner.views facts_all) (GoneElsewhere program effects older) ways_taken
         open_there = record {
-          free = λ k w under o. elim o [
-            | inr gone ↦ (let root = gone_low table typed effects unmoved_stage local inner.state depth older between w gone in
-                hand_base (sym (base_under (ways.Object (ways.OfHand k)) w under) ∙ root.2))
-            | inl (u, moved, leads) ↦ (
-                let root = stands_base (home s depth) sees inner.views (view_here s easy.state) facts_all views_all u (moved.0, clear_all.owned (ways.name_of u) moved.1) in
-                hand_base (sym (base_under (ways.Object (ways.OfHand k)) w under) ∙ ap ways.base_of (sym leads) ∙ root.2))
-          ];
+          free = λ k w under o. by_either o
+              (λ (u, moved, leads). (
+              let root = stands_base (home s depth) sees inner.views (view_here s easy.state) facts_all views_all u (moved.0, clear_all.owned (ways.name_of u) moved.1) in
+              hand_base (sym (base_under (ways.Object (ways.OfHand k)) w under) ∙ ap ways.base_of (sym leads) ∙ root.2)))
+              (λ gone. (let root = gone_low table typed effects unmoved_stage local inner.state depth older between w gone in
+              hand_base (sym (base_under (ways.Object (ways.OfHand k)) w under) ∙ root.2)));
           whole = λ to has w under gone. gone_clear table typed effects unmoved_stage local inner.state depth older between to (free_to to has) w gone (inl under);
         }
           where

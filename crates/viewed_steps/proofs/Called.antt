@@ -50,6 +50,7 @@ use Rattle.viewed_steps.proofs.Reading.{no_reads, both_reads, naming_adds, index
 use Rattle.viewed_steps.proofs.Puts as puts
 use Rattle.soundness.specs.ViewedSoundness.Taken.{types_taken, TakesFit}
 use Rattle.viewed_steps.proofs.Supplied.{Supplies, SuppliesAll, takes_supplied, scalar_types, place_types, seen_types}
+use Rattle.soundness.proofs.Parted.{by_either}
 
 module _ (s : Typing) (own_law : OwnsByShape s.table) (procedure : Bool) where
   abbrev pub way_to : ℕ → Passing
@@ -374,25 +375,22 @@ module _ (h : Here) (sees : ℕ → Bool) (seeing : Seeing h.typing sees) (settl
   one_given before on mode.In false access x e is fits unseen kind actual clears copied fit takes allowed =
       let plain_type_there = both_no (is_owning h.typing.table (object_at h.typing x).of) (is_anonymous (view_of h.typing x)) fits unseen in
       let value_there = actual.0 plain_type_there in
-      elim value_there.1 [
-        | inl (plain, stays) ↦ value_is on x e plain_type_there plain (passed h ByValue x e (at before))
-            (value_given before on x e stays (takes_supplied h.typing settled m e before on (scalar_types h.typing e (object_at h.typing x).of plain value_there.0 fit) takes) allowed)
-        | inr (many, named) ↦ copy_is on x e plain_type_there (passed h ByValue x e (at before)) (copy_given before on x e fits named value_there.0 fit takes allowed)
-      ]
-  one_given before on mode.In true access x e is fits unseen kind actual clears copied fit takes allowed = elim kind [
-    | inl plain ↦ absurd (true_false (is_owning h.typing.table (object_at h.typing x).of) fits (plain_type h.typing own_law (object_at h.typing x).of plain))
-    | inr other_kind ↦ elim other_kind [
-      | inl back ↦ absurd (back.0 is)
-      | inr (inl shown) ↦ (
-          let shown_type = ap (λ b. b || is_anonymous (view_of h.typing x)) fits in
-          let taken = takes_supplied h.typing settled m e before on (seen_types h.typing x e (actual.1 shown_type) fit) takes in
-          elim (bool_cases (is_bundle h.typing x)) [
-            | inl bundle ↦ bundle_given before on x e bundle (actual.1 shown_type) taken allowed (clears shown)
-            | inr bare ↦ shown_given before on x e (view_access h.typing sees in_formals x (given_view h.typing x shown) bare) shown_type (actual.1 shown_type) taken allowed (clears shown)
-          ])
-      | inr (inr plain) ↦ absurd (true_false (is_owning h.typing.table (object_at h.typing x).of) fits plain.1)
-    ]
-  ]
+      by_either value_there.1
+      (λ (plain, stays). (value_is on x e plain_type_there plain (passed h ByValue x e (at before))
+      (value_given before on x e stays (takes_supplied h.typing settled m e before on (scalar_types h.typing e (object_at h.typing x).of plain value_there.0 fit) takes) allowed)))
+      (λ (many, named). (copy_is on x e plain_type_there (passed h ByValue x e (at before)) (copy_given before on x e fits named value_there.0 fit takes allowed)))
+  one_given before on mode.In true access x e is fits unseen kind actual clears copied fit takes allowed = by_either kind
+      (λ plain. (absurd (true_false (is_owning h.typing.table (object_at h.typing x).of) fits (plain_type h.typing own_law (object_at h.typing x).of plain))))
+      (λ other_kind. (elim other_kind [
+        | inl back ↦ absurd (back.0 is)
+        | inr (inl shown) ↦ (
+            let shown_type = ap (λ b. b || is_anonymous (view_of h.typing x)) fits in
+            let taken = takes_supplied h.typing settled m e before on (seen_types h.typing x e (actual.1 shown_type) fit) takes in
+            by_either (bool_cases (is_bundle h.typing x))
+            (λ bundle. (bundle_given before on x e bundle (actual.1 shown_type) taken allowed (clears shown)))
+            (λ bare. (shown_given before on x e (view_access h.typing sees in_formals x (given_view h.typing x shown) bare) shown_type (actual.1 shown_type) taken allowed (clears shown))))
+        | inr (inr plain) ↦ absurd (true_false (is_owning h.typing.table (object_at h.typing x).of) fits plain.1)
+      ]))
   one_given before on mode.Out owning access x e is fits unseen kind actual clears copied fit takes allowed =
       quiet_then (at on) (λ k. IsBackGiven x e k) (λ a. IsGiven x mode.Out e a) (place_of h e (at before)) (λ k now. Done (To k) now)
       (back_given before on x e unseen actual (copied refl) (takes_supplied h.typing settled m e before on (place_types h.typing e actual.0 actual.1 fit) takes) allowed) (λ k put. (refl, put))

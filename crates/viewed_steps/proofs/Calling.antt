@@ -103,6 +103,7 @@ use Rattle.viewed_steps.specs.Seeing.{sees_in}
 use Rattle.viewed_steps.proofs.Sees.{sees_seeing}
 use Rattle.viewed_steps.proofs.Constructors.{is_of_cell_base}
 use Rattle.viewed_steps.proofs.InnerFrame.{InnerFrame}
+use Rattle.soundness.proofs.Parted.{by_either}
 
 same_cell : {a b : ℕ} → memory.OfCell a ≡ memory.OfCell b → a ≡ b
 same_cell e = cc
@@ -325,13 +326,12 @@ module _ (table : Table) (typed : TypedProgram) (effects : Effects) (input : Lis
             (subst (λ z. AllowsAll facts_now (acts z)) (λ j. flow.actual_values s (traversing.ways j) (made.actuals_are j)) values_allowed))
 
       pub passed_quiet : Quiet then_now Given (all_passed (steps.here main_turn) ways_there formals actuals (start main_turn))
-      passed_quiet = elim (acting.traverses_or table typed effects input ready inner n actuals result e) [
-        | inr (f, traversed) ↦ traversal_quiet f traversed
-        | inl none ↦ subst (λ z. Quiet then_now Given (all_passed (steps.here main_turn) z formals actuals (start main_turn))) (sym (passes_to program n none))
-            (all_given (steps.here main_turn) sees seeing ready.accepted.settled (waiting_in easy.state) inner.state.leaks inner.state.memory [] other facts_now inner.views (viewed_easy plain_there.0).1 (viewed_easy plain_there.0).0 holds_now alone live_now in_formals
-            index_law ready.owns ready.class.parts_named formals_low procedure given_words taken_there.0 formals actuals kinds (acting.unseen_plain table typed effects input ready inner n actuals result e none) called.actuals_stay clear_there copied_there taken_there.1
-            (subst (λ z. AllowsAll facts_now (acts (flow.actual_values s z actuals))) (passes_to program n none) values_allowed))
-      ]
+      passed_quiet = by_either (acting.traverses_or table typed effects input ready inner n actuals result e)
+          (λ none. (subst (λ z. Quiet then_now Given (all_passed (steps.here main_turn) z formals actuals (start main_turn))) (sym (passes_to program n none))
+          (all_given (steps.here main_turn) sees seeing ready.accepted.settled (waiting_in easy.state) inner.state.leaks inner.state.memory [] other facts_now inner.views (viewed_easy plain_there.0).1 (viewed_easy plain_there.0).0 holds_now alone live_now in_formals
+          index_law ready.owns ready.class.parts_named formals_low procedure given_words taken_there.0 formals actuals kinds (acting.unseen_plain table typed effects input ready inner n actuals result e none) called.actuals_stay clear_there copied_there taken_there.1
+          (subst (λ z. AllowsAll facts_now (acts (flow.actual_values s z actuals))) (passes_to program n none) values_allowed))))
+          (λ (f, traversed). (traversal_quiet f traversed))
 
       abbrev pub view_now : ways.View
       view_now = seen s inner.state.memory (waiting_in easy.state) inner.state.leaks
@@ -477,18 +477,16 @@ module _ (table : Table) (typed : TypedProgram) (effects : Effects) (input : Lis
 
         -- no view begins at a variable of what is called
         begins_low : (o : ℕ) (w : Way) → inner.views.way o ≡ Some w → (f y : ℕ) → ways.base_of w ≡ ways.OfRoot (ways.OfVariable f y) → f ≡ suc depth → ⊥
-        begins_low o w has f y begins above_it = elim (inner.holds.lies o w has) [
-          | inl at_home ↦ (let same = (same_variable (home s depth (ways.number_of w)) (ways.number_of w) f y (sym (named_base (home s depth) w at_home) ∙ begins)).0 in
-              not_above s sees ready.accepted.settled ready.owns in_formals (waiting_in easy.state) inner.state.leaks depth inner.views far_views (inner.holds.only, inner.holds.parts.only) facts_all next_there cells (ways.number_of w) (same ∙ above_it))
-          | inr (foreign, low, some) ↦ (let same = (same_variable foreign.0 foreign.1 f y (sym foreign.2 ∙ begins)).0 in omega (arith, low, same, above_it))
-        ]
+        begins_low o w has f y begins above_it = by_either (inner.holds.lies o w has)
+            (λ at_home. (let same = (same_variable (home s depth (ways.number_of w)) (ways.number_of w) f y (sym (named_base (home s depth) w at_home) ∙ begins)).0 in
+            not_above s sees ready.accepted.settled ready.owns in_formals (waiting_in easy.state) inner.state.leaks depth inner.views far_views (inner.holds.only, inner.holds.parts.only) facts_all next_there cells (ways.number_of w) (same ∙ above_it)))
+            (λ (foreign, low, some). (let same = (same_variable foreign.0 foreign.1 f y (sym foreign.2 ∙ begins)).0 in omega (arith, low, same, above_it)))
 
         -- the acts add none
         pub less_now : (f : Fact) → Has facts_all f → Has facts_now f
-        less_now f has = elim (splits_all f has) [
-          | inl mine ↦ Has-append_left own_facts handed_on f (acting.adds_none table typed effects input ready inner n actuals result e f mine)
-          | inr there ↦ Has-append_right own_facts handed_on f there
-        ]
+        less_now f has = by_either (splits_all f has)
+            (λ mine. (Has-append_left own_facts handed_on f (acting.adds_none table typed effects input ready inner n actuals result e f mine)))
+            (λ there. (Has-append_right own_facts handed_on f there))
 
         -- loans stay through the acts
         loan_all : (l : Loan) (h : ℕ) (m : PlaceName) → Has facts_now (Lent l h m) → Has facts_all (Lent l h m)
@@ -607,42 +605,39 @@ module _ (table : Table) (typed : TypedProgram) (effects : Effects) (input : Lis
         -- their ways begin at variables of the frame, or of package objects
         pub cell_begins : (c : Lodge) → Has cells c → (g : ℕ) × (y : ℕ) × (ways.base_of c.way ≡ ways.OfRoot (ways.OfVariable g y)) × (g ≡ suc depth → ⊥)
         cell_begins c has =
-            elim (stands (home s depth) sees inner.views (view_here s easy.state) facts_all views_all c.name (cell_plain c has)) [
-              | inl own ↦ (
-                  let named_there : ways.Named (home s depth) c.way = subst (ways.Named (home s depth)) (named_cell c has).leads own.named in (
-                    home s depth (ways.number_of c.way),
-                    ways.number_of c.way,
-                    named_base (home s depth) c.way named_there,
-                    not_above s sees ready.accepted.settled ready.owns in_formals (waiting_in easy.state) inner.state.leaks depth inner.views far_views (inner.holds.only, inner.holds.parts.only) facts_all next_there cells (ways.number_of c.way),
-                  ))
-              | inr held_there ↦ (
-                  let (f, y, begins) = held_there.passed.begins in (
-                    f,
-                    y,
-                    ap ways.base_of (sym (named_cell c has).leads) ∙ base_under held_there.way (expand inner.views c.name) held_there.under ∙ begins,
-                    begins_low held_there.object held_there.way held_there.has f y begins,
-                  ))
-            ]
+            by_either (stands (home s depth) sees inner.views (view_here s easy.state) facts_all views_all c.name (cell_plain c has))
+            (λ own. (
+            let named_there : ways.Named (home s depth) c.way = subst (ways.Named (home s depth)) (named_cell c has).leads own.named in (
+              home s depth (ways.number_of c.way),
+              ways.number_of c.way,
+              named_base (home s depth) c.way named_there,
+              not_above s sees ready.accepted.settled ready.owns in_formals (waiting_in easy.state) inner.state.leaks depth inner.views far_views (inner.holds.only, inner.holds.parts.only) facts_all next_there cells (ways.number_of c.way),
+            )))
+            (λ held_there. (
+            let (f, y, begins) = held_there.passed.begins in (
+              f,
+              y,
+              ap ways.base_of (sym (named_cell c has).leads) ∙ base_under held_there.way (expand inner.views c.name) held_there.under ∙ begins,
+              begins_low held_there.object held_there.way held_there.has f y begins,
+            )))
 
         -- one of another place
         housed_aside : (c : Lodge) (has : Has cells c) (k : Place) → k.base ≡ memory.OfCell c.cell
             → (u : Way) × Has ways_taken u × IsPassedOn s sees cells depth inner.views facts_all next_there (named_cell c has).by.formal k u → (to : Way) → Has ways_taken to → ways.Past to c.way → ⊥
-        housed_aside c has k base (u, has_u, one) to taken past = elim (one.inside).stands [
-          | inl variable ↦ (let never : memory.OfVariable (one.inside).frame (one.inside).object ≡ memory.OfCell c.cell = sym variable.2 ∙ base in absurd (false≢true (ap is_of_cell_base never)))
-          | inr cell ↦ (
-              let view = view_here s easy.state in
-              let number : cell.0 ≡ c.cell = same_cell (sym cell.2 ∙ base) in
-              let found = one.among cell.0 cell.1 in
-              let reach : ways.Reaches view (one.inside).trunk (ways.OfCell c.cell) =
-              subst (λ z. ways.Reaches view z (ways.OfCell c.cell)) found.2 (subst (λ z. ways.Reaches view found.0.way (ways.OfCell z)) (found.3 ∙ number) (named_cell found.0 found.1).reaches) in
-              let trunk_is : c.way ≡ (one.inside).trunk = one_way view well_before.owned c.way (one.inside).trunk (ways.OfCell c.cell) (named_cell c has).reaches reach in
-              let goes_on : u ≡ ways.along c.way (one.inside).steps = (one.inside).way ∙ ap (λ z. ways.along z (one.inside).steps) (sym trunk_is) in
-              let under_whole : ways.Under c.way u = subst (ways.Under c.way) (sym goes_on) (under_along c.way c.way (one.inside).steps (under_itself c.way)) in
-              elim (passed_pair s sees inner.state.memory cells depth inner.views facts_all next_there formals passed ways_taken outs all_passed_ways.1 to u taken has_u) [
-                | inl same ↦ not_before c.way (one.inside).steps (subst (λ z. ways.Past z c.way) (same ∙ goes_on) past)
-                | inr apart ↦ apart.0 (under_on to c.way u (past_under to c.way past) under_whole)
-              ])
-        ]
+        housed_aside c has k base (u, has_u, one) to taken past = by_either (one.inside).stands
+            (λ variable. (let never : memory.OfVariable (one.inside).frame (one.inside).object ≡ memory.OfCell c.cell = sym variable.2 ∙ base in absurd (false≢true (ap is_of_cell_base never))))
+            (λ cell. (
+            let view = view_here s easy.state in
+            let number : cell.0 ≡ c.cell = same_cell (sym cell.2 ∙ base) in
+            let found = one.among cell.0 cell.1 in
+            let reach : ways.Reaches view (one.inside).trunk (ways.OfCell c.cell) =
+            subst (λ z. ways.Reaches view z (ways.OfCell c.cell)) found.2 (subst (λ z. ways.Reaches view found.0.way (ways.OfCell z)) (found.3 ∙ number) (named_cell found.0 found.1).reaches) in
+            let trunk_is : c.way ≡ (one.inside).trunk = one_way view well_before.owned c.way (one.inside).trunk (ways.OfCell c.cell) (named_cell c has).reaches reach in
+            let goes_on : u ≡ ways.along c.way (one.inside).steps = (one.inside).way ∙ ap (λ z. ways.along z (one.inside).steps) (sym trunk_is) in
+            let under_whole : ways.Under c.way u = subst (ways.Under c.way) (sym goes_on) (under_along c.way c.way (one.inside).steps (under_itself c.way)) in
+            by_either (passed_pair s sees inner.state.memory cells depth inner.views facts_all next_there formals passed ways_taken outs all_passed_ways.1 to u taken has_u)
+            (λ same. (not_before c.way (one.inside).steps (subst (λ z. ways.Past z c.way) (same ∙ goes_on) past)))
+            (λ apart. (apart.0 (under_on to c.way u (past_under to c.way past) under_whole)))))
 
         -- one of a scalar place
         scalar_aside : (c : Lodge) (has : Has cells c) → IsScalarObject s (named_cell c has).by.formal → (to : Way) → Has ways_taken to → ways.Past to c.way → ⊥
@@ -661,20 +656,18 @@ module _ (table : Table) (typed : TypedProgram) (effects : Effects) (input : Lis
             taken_apart to taken c has scalar over =
                 let by = all_passed_ways.2 to taken in
                 let cell = named_cell c has in
-                elim no_overlap [
-                  | inr plain ↦ true_false (is_scalar (full s.table (object_at s by.by.formal).of)) (plain by.by.formal (passed_formal formals actuals by.by by.among) by.back) by.many
-                  | inl none ↦ passed_apart s formals actuals none by.by cell.by by.among cell.among by.back cell.back
-                      (λ same. true_false (is_scalar (full s.table (object_at s by.by.formal).of)) (subst (IsScalarObject s) (sym same) scalar) by.many)
-                      (subst (λ z. overlaps z cell.by.actual.name ≡ true) (sym by.called) (subst (λ z. overlaps (ways.name_of by.name) z ≡ true) (sym cell.called) over))
-                ]
+                by_either no_overlap
+                (λ none. (passed_apart s formals actuals none by.by cell.by by.among cell.among by.back cell.back
+                (λ same. true_false (is_scalar (full s.table (object_at s by.by.formal).of)) (subst (IsScalarObject s) (sym same) scalar) by.many)
+                (subst (λ z. overlaps z cell.by.actual.name ≡ true) (sym by.called) (subst (λ z. overlaps (ways.name_of by.name) z ≡ true) (sym cell.called) over))))
+                (λ plain. (true_false (is_scalar (full s.table (object_at s by.by.formal).of)) (plain by.by.formal (passed_formal formals actuals by.by by.among) by.back) by.many))
 
         -- no place that is taken goes before one
         pub cell_aside : (c : Lodge) → Has cells c → (to : Way) → Has ways_taken to → ways.Past to c.way → ⊥
-        cell_aside c has to taken past = elim (named_cell c has).sort [
-          | inl scalar ↦ scalar_aside c has scalar to taken past
-          | inr (k, base, from, many) ↦ housed_aside c has k base (from_taken s sees inner.state.memory cells depth inner.views facts_all next_there formals passed ways_taken outs all_passed_ways.1
-              (named_cell c has).by.formal k from many) to taken past
-        ]
+        cell_aside c has to taken past = by_either (named_cell c has).sort
+            (λ scalar. (scalar_aside c has scalar to taken past))
+            (λ (k, base, from, many). (housed_aside c has k base (from_taken s sees inner.state.memory cells depth inner.views facts_all next_there formals passed ways_taken outs all_passed_ways.1
+            (named_cell c has).by.formal k from many) to taken past))
 
         -- a package object that is passed to be copied back to is written
         abbrev pub waits_there : ViewStage
@@ -687,10 +680,7 @@ module _ (table : Table) (typed : TypedProgram) (effects : Effects) (input : Lis
             by_word : (w : ways.Word) → word_in s.table (content s inner.state.memory [] (ways.OfRoot (ways.OfVariable (suc depth) x))) q ≡ w
                 → word_in s.table (content s inner.state.memory [] (ways.OfRoot (ways.OfVariable (suc depth) x))) q ≡ ways.Empty
             by_word ways.Empty is = is
-            by_word (ways.Held k) is = absurd (elim (inner.scope (suc depth) x q k is) [
-              | inl less ↦ omega (arith, less)
-              | inr mine ↦ (let frames_same = mine.0 in omega (arith, frames_same))
-            ])
+            by_word (ways.Held k) is = absurd (by_either (inner.scope (suc depth) x q k is) (λ less. (omega (arith, less))) (λ mine. (let frames_same = mine.0 in omega (arith, frames_same))))
             by_word ways.Gone is =
                 let root : ways.Root = ways.OfVariable (suc depth) x in
                 let w : Way = ways.along (ways.Object root) q in
@@ -702,13 +692,12 @@ module _ (table : Table) (typed : TypedProgram) (effects : Effects) (input : Lis
                       let frames_same = (same_variable there.0 there.1 (suc depth) x (sym there.2 ∙ base_along (ways.Object root) q)).0 in
                       let less = there.3 in omega (arith, frames_same, less))
                   | inl (inr none) ↦ absurd none
-                  | inl (inl (u, moved, leads)) ↦ elim (stands (home s depth) sees inner.views (view_here s easy.state) facts_now well_before.views u
-                      (moved.0, well_before.clear.owned (ways.name_of u) moved.1)) [
-                        | inl own ↦ not_named (home s depth) (suc depth) x
-                            (not_above s sees ready.accepted.settled ready.owns in_formals (waiting_in easy.state) inner.state.leaks depth inner.views far_views (inner.holds.only, inner.holds.parts.only) facts_all next_there cells) w
-                            (subst (ways.Named (home s depth)) leads own.named) (base_along (ways.Object root) q)
-                        | inr held_there ↦ (
-                            let at = sym (base_under held_there.way (expand inner.views u) held_there.under) ∙ ap ways.base_of leads ∙ base_along (ways.Object root) q in
-                            begins_low held_there.object held_there.way held_there.has (suc depth) x at refl)
-                      ]
+                  | inl (inl (u, moved, leads)) ↦ by_either (stands (home s depth) sees inner.views (view_here s easy.state) facts_now well_before.views u
+                      (moved.0, well_before.clear.owned (ways.name_of u) moved.1))
+                      (λ own. (not_named (home s depth) (suc depth) x
+                      (not_above s sees ready.accepted.settled ready.owns in_formals (waiting_in easy.state) inner.state.leaks depth inner.views far_views (inner.holds.only, inner.holds.parts.only) facts_all next_there cells) w
+                      (subst (ways.Named (home s depth)) leads own.named) (base_along (ways.Object root) q)))
+                      (λ held_there. (
+                      let at = sym (base_under held_there.way (expand inner.views u) held_there.under) ∙ ap ways.base_of leads ∙ base_along (ways.Object root) q in
+                      begins_low held_there.object held_there.way held_there.has (suc depth) x at refl))
                 ])

@@ -26,6 +26,7 @@ use Rattle.viewed_steps.specs.Taken.{IsCellAt, IsInside, trunk_type, IsOwnAt}
 use Rattle.viewed_steps.proofs.Lodged.{lodged_spot, cell_live}
 use Rattle.viewed_steps.proofs.Between.{moved_between, base_under, base_along, same_variable, OwnersStand, Begins, begun_low}
 use Rattle.viewed_steps.proofs.Constructors.{is_of_root_loc, is_of_variable_base}
+use Rattle.soundness.proofs.Parted.{by_either}
 
 -- ---- places in variables
 
@@ -217,11 +218,10 @@ module _ (s : Typing) (settled : IsSettled s.table) (home : ℕ → ℕ) (v : Vi
     pub carried_held : (g y : ℕ) (p : List Step) (c : ℕ) → word_in s.table (content s (moved_out s k m) [] (OfRoot (OfVariable g y))) p ≡ Held c
         → word_in s.table (content s m [] (OfRoot (OfVariable g y))) p ≡ Held c
     carried_held g y p c held =
-        elim (owner_before (seen s m rest leaks) after l (hand (length rest)) move (part (OfRoot (OfVariable g y)) p) c (word_root s.table b (OfVariable g y) p ∙ held)) [
-          | inr stays ↦ sym (word_root s.table a (OfVariable g y) p) ∙ stays.word
-          | inl (q, is, word) ↦ absurd (hand_apart
-              (sym (trunk_part (OfRoot (OfVariable g y)) p) ∙ ap trunk is ∙ trunk_part (hand (length rest)) q))
-        ]
+        by_either (owner_before (seen s m rest leaks) after l (hand (length rest)) move (part (OfRoot (OfVariable g y)) p) c (word_root s.table b (OfVariable g y) p ∙ held))
+        (λ (q, is, word). (absurd (hand_apart
+        (sym (trunk_part (OfRoot (OfVariable g y)) p) ∙ ap trunk is ∙ trunk_part (hand (length rest)) q))))
+        (λ stays. (sym (word_root s.table a (OfVariable g y) p) ∙ stays.word))
 
     -- beside the place a variable has what it had
     pub carried_beside : (g y : ℕ) (p : List Step) → (Below l (part (OfRoot (OfVariable g y)) p) → ⊥)
@@ -234,21 +234,19 @@ module _ (s : Typing) (settled : IsSettled s.table) (home : ℕ → ℕ) (v : Vi
     -- what is gone in a variable stays so
     pub carried_gone : (g y : ℕ) (p : List Step) → word_in s.table (content s m [] (OfRoot (OfVariable g y))) p ≡ Gone
         → word_in s.table (content s (moved_out s k m) [] (OfRoot (OfVariable g y))) p ≡ Gone
-    carried_gone g y p gone = elim (below l (part (OfRoot (OfVariable g y)) p)) [
-      | inl (q, is) ↦ absurd (clean (along u q) (under_along u u q (under_itself u))
-          (stand.known (along u q) (part l q) (named_along u q rooted) (reaches_along (seen s m rest leaks) u l q reaches)
-          (subst (λ z. (seen s m rest leaks).word z ≡ Gone) is (word_root s.table a (OfVariable g y) p ∙ gone))))
-      | inr off ↦ carried_beside g y p off ∙ gone
-    ]
+    carried_gone g y p gone = by_either (below l (part (OfRoot (OfVariable g y)) p))
+        (λ (q, is). (absurd (clean (along u q) (under_along u u q (under_itself u))
+        (stand.known (along u q) (part l q) (named_along u q rooted) (reaches_along (seen s m rest leaks) u l q reaches)
+        (subst (λ z. (seen s m rest leaks).word z ≡ Gone) is (word_root s.table a (OfVariable g y) p ∙ gone))))))
+        (λ off. (carried_beside g y p off ∙ gone))
 
     -- the same for cells
     pub carried_held_cell : (n : ℕ) (p : List Step) (c : ℕ) → word_in s.table (content s (moved_out s k m) [] (OfCell n)) p ≡ Held c
         → word_in s.table (content s m [] (OfCell n)) p ≡ Held c
     carried_held_cell n p c held =
-        elim (owner_before (seen s m rest leaks) after l (hand (length rest)) move (part (OfCell n) p) c (word_cell b n p ∙ held)) [
-          | inr stays ↦ sym (word_cell a n p) ∙ stays.word
-          | inl (q, is, word) ↦ absurd (cell_off n p (hand (length rest)) (OfHand (length rest)) refl (q, is))
-        ]
+        by_either (owner_before (seen s m rest leaks) after l (hand (length rest)) move (part (OfCell n) p) c (word_cell b n p ∙ held))
+        (λ (q, is, word). (absurd (cell_off n p (hand (length rest)) (OfHand (length rest)) refl (q, is))))
+        (λ stays. (sym (word_cell a n p) ∙ stays.word))
 
     pub carried_beside_cell : (n : ℕ) (p : List Step) → (Below l (part (OfCell n) p) → ⊥)
         → word_in s.table (content s (moved_out s k m) [] (OfCell n)) p ≡ word_in s.table (content s m [] (OfCell n)) p
@@ -259,12 +257,11 @@ module _ (s : Typing) (settled : IsSettled s.table) (home : ℕ → ℕ) (v : Vi
 
     pub carried_gone_cell : (n : ℕ) (p : List Step) → word_in s.table (content s m [] (OfCell n)) p ≡ Gone
         → word_in s.table (content s (moved_out s k m) [] (OfCell n)) p ≡ Gone
-    carried_gone_cell n p gone = elim (below l (part (OfCell n) p)) [
-      | inl (q, is) ↦ absurd (clean (along u q) (under_along u u q (under_itself u))
-          (stand.known (along u q) (part l q) (named_along u q rooted) (reaches_along (seen s m rest leaks) u l q reaches)
-          (subst (λ z. (seen s m rest leaks).word z ≡ Gone) is (word_cell a n p ∙ gone))))
-      | inr off ↦ carried_beside_cell n p off ∙ gone
-    ]
+    carried_gone_cell n p gone = by_either (below l (part (OfCell n) p))
+        (λ (q, is). (absurd (clean (along u q) (under_along u u q (under_itself u))
+        (stand.known (along u q) (part l q) (named_along u q rooted) (reaches_along (seen s m rest leaks) u l q reaches)
+        (subst (λ z. (seen s m rest leaks).word z ≡ Gone) is (word_cell a n p ∙ gone))))))
+        (λ off. (carried_beside_cell n p off ∙ gone))
 
     after_is : after ≡ seen s (moved_out s k m) (got ∷ rest) leaks
     after_is =
@@ -320,11 +317,8 @@ module _ (s : Typing) (settled : IsSettled s.table) (home : ℕ → ℕ) (v : Vi
     pub carried_holds : (g y : ℕ) (p : List Step) (c : ℕ) → word_in s.table (content s (stored s k got.words m) [] (OfRoot (OfVariable g y))) p ≡ Held c
         → (word_in s.table (content s m [] (OfRoot (OfVariable g y))) p ≡ Held c) ⊎ ((q : List Step) × (part (OfRoot (OfVariable g y)) p ≡ part l q))
     carried_holds g y p c held =
-        elim (owner_before (seen s m (got ∷ rest) leaks) then_seen (hand (length rest)) l goes_there (part (OfRoot (OfVariable g y)) p) c
-        (word_root s.table given (OfVariable g y) p ∙ held)) [
-          | inl (q, is, word) ↦ inr (q, is)
-          | inr stays ↦ inl (sym (word_root s.table full (OfVariable g y) p) ∙ stays.word)
-        ]
+        by_either (owner_before (seen s m (got ∷ rest) leaks) then_seen (hand (length rest)) l goes_there (part (OfRoot (OfVariable g y)) p) c
+        (word_root s.table given (OfVariable g y) p ∙ held)) (λ (q, is, word). (inr (q, is))) (λ stays. (inl (sym (word_root s.table full (OfVariable g y) p) ∙ stays.word)))
 
     -- beside the place, what is gone in a variable stays so
     pub carried_gone_to : (g y : ℕ) (p : List Step) → (Below l (part (OfRoot (OfVariable g y)) p) → ⊥)
@@ -338,10 +332,7 @@ module _ (s : Typing) (settled : IsSettled s.table) (home : ℕ → ℕ) (v : Vi
     pub carried_holds_cell : (n : ℕ) (p : List Step) (c : ℕ) → word_in s.table (content s (stored s k got.words m) [] (OfCell n)) p ≡ Held c
         → (word_in s.table (content s m [] (OfCell n)) p ≡ Held c) ⊎ ((q : List Step) × (part (OfCell n) p ≡ part l q))
     carried_holds_cell n p c held =
-        elim (owner_before (seen s m (got ∷ rest) leaks) then_seen (hand (length rest)) l goes_there (part (OfCell n) p) c (word_cell given n p ∙ held)) [
-          | inl (q, is, word) ↦ inr (q, is)
-          | inr stays ↦ inl (sym (word_cell full n p) ∙ stays.word)
-        ]
+        by_either (owner_before (seen s m (got ∷ rest) leaks) then_seen (hand (length rest)) l goes_there (part (OfCell n) p) c (word_cell given n p ∙ held)) (λ (q, is, word). (inr (q, is))) (λ stays. (inl (sym (word_cell full n p) ∙ stays.word)))
 
     pub carried_gone_cell_to : (n : ℕ) (p : List Step) → (Below l (part (OfCell n) p) → ⊥)
         → word_in s.table (content s m [] (OfCell n)) p ≡ Gone → word_in s.table (content s (stored s k got.words m) [] (OfCell n)) p ≡ Gone

@@ -50,6 +50,7 @@ use Rattle.viewed_steps.proofs.Called.{copies_add}
 use Rattle.viewed_steps.proofs.Entered.{IsFrom, IsOfPlace}
 use Rattle.viewed_steps.proofs.Passed.{apart_pair, flat_has, later_none, after_less}
 use Rattle.viewed_steps.proofs.Constructors.{is_of_cell_loc, is_out_mode}
+use Rattle.soundness.proofs.Parted.{by_either}
 
 -- ---- names that don't overlap
 
@@ -166,10 +167,9 @@ module _ (s : Typing) (sees : ℕ → Bool) (own_law : OwnsByShape s.table) (dep
       by_written : (w : Option Written) → written e ≡ w → Has (after (acts (naming w (λ k. act.Actual k mode.Out owning access))) known) f
           ⊎ ((mode.Out ≡ mode.In → ⊥) × (z : Written) × (written e ≡ Some z) × (n : PlaceName) × (f ≡ Moved n) × (covers z.name n ≡ true))
       by_written None is = inl has
-      by_written (Some w) is = elim (bool_cases (is_moved_under w.name f)) [
-        | inr stays ↦ inl (kept_fact (act.Actual w.name mode.Out owning access) known f has stays)
-        | inl under ↦ (let found = by_fact w f refl under in inr ((λ e. false≢true (ap is_out_mode (sym e))), w, is, found.0, found.1, found.2))
-      ]
+      by_written (Some w) is = by_either (bool_cases (is_moved_under w.name f))
+          (λ under. (let found = by_fact w f refl under in inr ((λ e. false≢true (ap is_out_mode (sym e))), w, is, found.0, found.1, found.2)))
+          (λ stays. (inl (kept_fact (act.Actual w.name mode.Out owning access) known f has stays)))
 
   abbrev ways_of : List ℕ → List Passing
   ways_of formals = map (passing s procedure) formals
@@ -324,7 +324,7 @@ module _ (s : Typing) (sees : ℕ → Bool) (settled : IsSettled s.table) (own_l
     among = Has-append_right (alias.passed_as x (written e)) (alias.passed formals actuals) there.by there.among;
     back = there.back;
     called = there.called;
-    sort = elim there.sort [ inl scalar ↦ inl scalar | inr (k, base, from, many) ↦ inr (k, base, inr from, many) ];
+    sort = by_either there.sort (λ scalar. (inl scalar)) (λ (k, base, from, many). (inr (k, base, inr from, many)));
   }
 
   -- such an actual isn't lent
@@ -423,14 +423,13 @@ module _ (s : Typing) (sees : ℕ → Bool) (settled : IsSettled s.table) (own_l
       let both : acts (actual_acts (map (passing s procedure) (x ∷ formals)) (More e rest)) ≡ first ++ others =
       acts_append (actual_act (passing s procedure x) e) (actual_acts (map (passing s procedure) formals) rest) in
       let each = allows_both known first others (subst (AllowsAll known) both allowed) in
-      elim (Has-append_cases (cell_of s sees mem depth v view x (object_at s x).mode e a laid.0) (cells_of s sees mem depth v view formals rest passed laid.1) c has) [
-        | inl mine ↦ first_cell x (object_at s x).mode e a known formals rest passed refl laid.0 each.0
-            (λ f there. after_less (acts (actual_acts (map (passing s procedure) (x ∷ formals)) (More e rest)))
-            (λ b among. (let from = Has-map_from (λ (z : Placed). z.act) (actual_acts (map (passing s procedure) (x ∷ formals)) (More e rest)) b among in
-            λ g new. copies_add s own_law procedure (x ∷ formals) (More e rest) from.0 from.1 g (subst (λ z. Has (adds z) g) (sym from.2) new))) known f (subst (λ z. Has z f) same there))
-            c mine
-        | inr later ↦ cell_later x e a formals rest passed c
-            (cells_named formals rest passed (after first known) laid.1 (same ∙ ap (λ z. after z known) both ∙ after_append first others known) each.1 c later)
-      ]
+      by_either (Has-append_cases (cell_of s sees mem depth v view x (object_at s x).mode e a laid.0) (cells_of s sees mem depth v view formals rest passed laid.1) c has)
+      (λ mine. (first_cell x (object_at s x).mode e a known formals rest passed refl laid.0 each.0
+      (λ f there. after_less (acts (actual_acts (map (passing s procedure) (x ∷ formals)) (More e rest)))
+      (λ b among. (let from = Has-map_from (λ (z : Placed). z.act) (actual_acts (map (passing s procedure) (x ∷ formals)) (More e rest)) b among in
+      λ g new. copies_add s own_law procedure (x ∷ formals) (More e rest) from.0 from.1 g (subst (λ z. Has (adds z) g) (sym from.2) new))) known f (subst (λ z. Has z f) same there))
+      c mine))
+      (λ later. (cell_later x e a formals rest passed c
+      (cells_named formals rest passed (after first known) laid.1 (same ∙ ap (λ z. after z known) both ∙ after_append first others known) each.1 c later)))
   cells_named (x ∷ formals) (More e rest) [] known laid same allowed c has = absurd laid
   cells_named (x ∷ formals) actuals passed known laid same allowed c has = absurd has

@@ -57,7 +57,7 @@ use Rattle.soundness.proofs.ViewedSoundness.Moments.{hands_spared}
 use Rattle.soundness.proofs.ViewedSoundness.Evaluated.{gives_plainly, Given, blank_ready, checked_given, evaluated_on}
 use Rattle.soundness.proofs.ViewedSoundness.Outcomes.{named_plain, not_views, IsGood, Leads_on, raises, start_is, unturned, goes_to}
 use Rattle.viewed_steps.proofs.Views.{AreAccess, same_named}
-use Rattle.soundness.proofs.Parted.{cell_root, hand_variable}
+use Rattle.soundness.proofs.Parted.{cell_root, hand_variable, by_either}
 use Rattle.viewed_steps.proofs.Parted.{loc_roots}
 
 -- ---- a variable that had nothing gets a value
@@ -140,13 +140,11 @@ IsApart home other f x =
 
 -- nor one in which something is bare
 bare_off : (home : ℕ → ℕ) (other : Around home) (f x : ℕ) → IsApart home other f x → (w : Way) (l : Loc) (p q : List Step) → other.bare w l p → IsOff f x (part l q)
-bare_off home other f x apart w l p q bare = elim (other.rests w l p bare) [
-  | inl (n, keeps, is) ↦ subst (λ z. IsOff f x (part z q)) (sym is) (below q (OfCell n) tt)
-  | inr (r, way, is) ↦
-      let (g, y, base, other_one) = other.bares w l p bare in
-      let root : OfRoot r ≡ OfRoot (OfVariable g y) = sym (ap base_of way) ∙ base in
-      subst (λ z. IsOff f x (part z q)) (sym (is ∙ root)) (below q (OfRoot (OfVariable g y)) (λ e. apart w (inr (l, p, bare)) (base ∙ ap OfRoot (sym e))))
-]
+bare_off home other f x apart w l p q bare = by_either (other.rests w l p bare)
+    (λ (n, keeps, is). (subst (λ z. IsOff f x (part z q)) (sym is) (below q (OfCell n) tt)))
+    (λ (r, way, is). (let (g, y, base, other_one) = other.bares w l p bare in
+    let root : OfRoot r ≡ OfRoot (OfVariable g y) = sym (ap base_of way) ∙ base in
+    subst (λ z. IsOff f x (part z q)) (sym (is ∙ root)) (below q (OfRoot (OfVariable g y)) (λ e. apart w (inr (l, p, bare)) (base ∙ ap OfRoot (sym e))))))
   where
     below : (q : List Step) (l : Loc) → IsOff f x l → IsOff f x (part l q)
     below [] l off = off
@@ -294,49 +292,44 @@ module _ (t : Turn) (sees : ℕ → Bool) (seeing : Seeing (typing t) sees) (set
   not_gone x facts z viewed unmoved free p (inl (inl (u, moved, leads))) =
       let root : number_of (expand v u) ≡ x = ap number_of leads ∙ number_part (Object (OfVariable depth x)) p in
       let at : base_of (expand v u) ≡ OfRoot (OfVariable depth x) = ap base_of leads ∙ along_base (Object (OfVariable depth x)) p in
-      elim (stands (home s depth) sees v z facts viewed.views u (moved.0, viewed.clear.owned (ways.name_of u) moved.1)) [
-        | inr held ↦ elim (home_or_foreign (home s depth) held.way held.passed.begins) [
-          | inr foreign ↦ (free.0 held.object held.way held.has).0 foreign
-              (base_frame foreign.0 foreign.1 depth x (sym foreign.2 ∙ sym (longer held.way (expand v u) held.under).base ∙ at))
-          | inl at_home ↦ (
-              let below = longer held.way (expand v u) held.under in
-              let named : Named (home s depth) (along (Object (OfVariable depth x)) p) =
-              same_named (home s depth) (along (Object (OfVariable depth x)) p) held.way (ap base_of (sym leads) ∙ below.base) at_home in
-              (free.0 held.object held.way held.has).1 at_home (sym (in_home (home s depth) depth x p named)) (sym below.root ∙ root))
-        ]
-        | inl own ↦ (
-            let named : Named (home s depth) (along (Object (OfVariable depth x)) p) = subst (Named (home s depth)) leads own.named in
-            elim (stands_root v u (no_part (home s depth) sees v z facts viewed.views u (viewed.clear.owned (ways.name_of u) moved.1))) [
-              | inl e ↦ unmoved (ways.name_of u) moved.1 (sym e ∙ root) (in_home (home s depth) depth x p named)
-              | inr (y, k, has, e, base) ↦ (free.0 y k has).1
-                  (same_named (home s depth) k (along (Object (OfVariable depth x)) p) (sym base ∙ ap base_of leads) named)
-                  (sym (in_home (home s depth) depth x p named)) (sym e ∙ root)
-            ])
-      ]
+      by_either (stands (home s depth) sees v z facts viewed.views u (moved.0, viewed.clear.owned (ways.name_of u) moved.1))
+      (λ own. (
+      let named : Named (home s depth) (along (Object (OfVariable depth x)) p) = subst (Named (home s depth)) leads own.named in
+      by_either (stands_root v u (no_part (home s depth) sees v z facts viewed.views u (viewed.clear.owned (ways.name_of u) moved.1)))
+      (λ e. (unmoved (ways.name_of u) moved.1 (sym e ∙ root) (in_home (home s depth) depth x p named)))
+      (λ (y, k, has, e, base). ((free.0 y k has).1
+      (same_named (home s depth) k (along (Object (OfVariable depth x)) p) (sym base ∙ ap base_of leads) named)
+      (sym (in_home (home s depth) depth x p named)) (sym e ∙ root)))))
+      (λ held. (by_either (home_or_foreign (home s depth) held.way held.passed.begins)
+      (λ at_home. (
+      let below = longer held.way (expand v u) held.under in
+      let named : Named (home s depth) (along (Object (OfVariable depth x)) p) =
+      same_named (home s depth) (along (Object (OfVariable depth x)) p) held.way (ap base_of (sym leads) ∙ below.base) at_home in
+      (free.0 held.object held.way held.has).1 at_home (sym (in_home (home s depth) depth x p named)) (sym below.root ∙ root)))
+      (λ foreign. ((free.0 held.object held.way held.has).0 foreign
+      (base_frame foreign.0 foreign.1 depth x (sym foreign.2 ∙ sym (longer held.way (expand v u) held.under).base ∙ at))))))
 
   blank_after : (x : ℕ) → is_view_formal s x ≡ false → (facts : List Fact) (ws : List machine.Word) (n : Now) → Given_here (object_at s x).of facts (Done ws n)
       → FadesTo (here t) {A = List machine.Word} m (Done ws n) → IsBlank x m → IsUnmoved x facts → IsFree x → IsBlank x n.memory
-  blank_after x owner facts ws n (ready, long, same) faint new unmoved free p = elim (bool_cases (is_leaf s.table (object_at s x).of p)) [
-    | inr isnt ↦ word_no s.table (content s n.memory [] (OfRoot (OfVariable depth x))) p isnt
-    | inl leaf ↦ (
-        let one = faint depth x (offset_in s.table (object_at s x).of p) in
-        let own : not (is_view_formal s x) ≡ true = ap not owner in
-        let old : Slot = get_or (variable_slots s depth x m.variables) (offset_in s.table (object_at s x).of p) no_slot in
-        let now_there : Slot = get_or (variable_slots s depth x n.memory.variables) (offset_in s.table (object_at s x).of p) no_slot in
-        let root : Root = OfVariable depth x in
-        let hands' : List Waiting = record { of = (object_at s x).of; words = ws } ∷ hands in
-        word_yes s.table (content s n.memory [] (OfRoot root)) p own leaf ∙ elim (bool_cases now_there.gone) [
-          | inl gone ↦ absurd (not_gone x facts (seen s n.memory hands' t.state.leaks) ready.viewed unmoved free p
-              (ready.viewed.known (along (Object root) p) (part (OfRoot root) p) (rooted_along (Object root) p tt)
-              (reaches_along (seen s n.memory hands' t.state.leaks) (Object root) (OfRoot root) p refl)
-              (word_root s.table (content s n.memory hands') root p ∙ word_yes s.table (content s n.memory hands' (OfRoot root)) p own leaf
-              ∙ ap (owner_at now_there.word) gone)))
-          | inr whole ↦ (
-              let was : old.gone ≡ false = is_false old.gone (λ g. (let no_more : true ≡ false = sym (one.gone g) ∙ whole in absurd (true≢false no_more))) in
-              (λ j. owner_at (one.word j) (whole j)) ∙ ap (owner_at old.word) (sym was)
-              ∙ sym (word_yes s.table (content s m [] (OfRoot root)) p own leaf) ∙ new p)
-        ])
-  ]
+  blank_after x owner facts ws n (ready, long, same) faint new unmoved free p = by_either (bool_cases (is_leaf s.table (object_at s x).of p))
+      (λ leaf. (
+      let one = faint depth x (offset_in s.table (object_at s x).of p) in
+      let own : not (is_view_formal s x) ≡ true = ap not owner in
+      let old : Slot = get_or (variable_slots s depth x m.variables) (offset_in s.table (object_at s x).of p) no_slot in
+      let now_there : Slot = get_or (variable_slots s depth x n.memory.variables) (offset_in s.table (object_at s x).of p) no_slot in
+      let root : Root = OfVariable depth x in
+      let hands' : List Waiting = record { of = (object_at s x).of; words = ws } ∷ hands in
+      word_yes s.table (content s n.memory [] (OfRoot root)) p own leaf ∙ by_either (bool_cases now_there.gone)
+      (λ gone. (absurd (not_gone x facts (seen s n.memory hands' t.state.leaks) ready.viewed unmoved free p
+      (ready.viewed.known (along (Object root) p) (part (OfRoot root) p) (rooted_along (Object root) p tt)
+      (reaches_along (seen s n.memory hands' t.state.leaks) (Object root) (OfRoot root) p refl)
+      (word_root s.table (content s n.memory hands') root p ∙ word_yes s.table (content s n.memory hands' (OfRoot root)) p own leaf
+      ∙ ap (owner_at now_there.word) gone)))))
+      (λ whole. (
+      let was : old.gone ≡ false = is_false old.gone (λ g. (let no_more : true ≡ false = sym (one.gone g) ∙ whole in absurd (true≢false no_more))) in
+      (λ j. owner_at (one.word j) (whole j)) ∙ ap (owner_at old.word) (sym was)
+      ∙ sym (word_yes s.table (content s m [] (OfRoot root)) p own leaf) ∙ new p))))
+      (λ isnt. (word_no s.table (content s n.memory [] (OfRoot (OfVariable depth x))) p isnt))
 
   pub first_fades : (ws : List (List machine.Word)) (u : ℕ) (e : TypedTree) → FirstSource s u e → FadesTo (here t) m (first_value t u e (at ws))
   unfolding initial

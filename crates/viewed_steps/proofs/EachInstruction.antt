@@ -86,6 +86,7 @@ use Rattle.viewed_steps.proofs.Views.{AreAccess, all_held, anonymous_view, view_
 use Rattle.viewed_steps.specs.Seeing.{sees_in}
 use Rattle.viewed_steps.proofs.Sees.{sees_seeing}
 use Rattle.viewed_steps.proofs.InnerFrame.{InnerFrame}
+use Rattle.soundness.proofs.Parted.{by_either}
 
 last_within : (x : ℕ) (scope : List ℕ) → is_last x scope ≡ true → is_within x scope ≡ true
 last_within x [] last = absurd (false≢true last)
@@ -296,10 +297,9 @@ module _ (table : Table) (typed : TypedProgram) (effects : Effects) (input : Lis
         to_easy fs (Goes st) (turned_views, turned, well) = (
           turned_views,
           (
-            λ x w e. elim (turned.0 x w e) [
-              | inl same_view ↦ inl (record { way = same_view.way; loan = same_view.loan; up = same_view.up })
-              | inr (y, from, comes) ↦ inr (y, from, record { up = comes.up; root = comes.root; loan = comes.loan; under = comes.under })
-            ],
+            λ x w e. by_either (turned.0 x w e)
+                (λ same_view. (inl (record { way = same_view.way; loan = same_view.loan; up = same_view.up })))
+                (λ (y, from, comes). (inr (y, from, record { up = comes.up; root = comes.root; loan = comes.loan; under = comes.under }))),
             turned.1,
           ),
           record { viewed = well.viewed; kept = well.kept; holds = well.holds },
@@ -332,13 +332,12 @@ module _ (table : Table) (typed : TypedProgram) (effects : Effects) (input : Lis
 
       -- no part of a formal has a way from such an object
       free_parts : (x y : ℕ) (q : List Step) (w : Way) → inner.views.part_way y q ≡ Some w → ways.base_of w ≡ ways.OfRoot (OfVariable depth x) → ⊥
-      free_parts x y q w has base = elim (inner.holds.low y q w has).0 [
-        | inr (foreign, less, some) ↦ (let same = same_roots foreign.0 foreign.1 depth x (sym foreign.2 ∙ base) in let frames_are = same.0 in omega (arith, less, frames_are))
-        | inl at ↦ (
-            let same = same_roots (home s depth (number_of w)) (number_of w) depth x (sym (named_base (home s depth) w at) ∙ base) in
-            let first : home s depth (number_of w) ≡ 0 = ap (λ b. if b then 0 else depth) ((inner.holds.low y q w has).1 at) in
-            let frames_are = same.0 in omega (arith, first, frames_are))
-      ]
+      free_parts x y q w has base = by_either (inner.holds.low y q w has).0
+          (λ at. (
+          let same = same_roots (home s depth (number_of w)) (number_of w) depth x (sym (named_base (home s depth) w at) ∙ base) in
+          let first : home s depth (number_of w) ≡ 0 = ap (λ b. if b then 0 else depth) ((inner.holds.low y q w has).1 at) in
+          let frames_are = same.0 in omega (arith, first, frames_are)))
+          (λ (foreign, less, some). (let same = same_roots foreign.0 foreign.1 depth x (sym foreign.2 ∙ base) in let frames_are = same.0 in omega (arith, less, frames_are)))
 
       pub free : (x : ℕ) (v : TypedTree) → inner.p.instr ≡ Declare x v
           → ((y : ℕ) (w : Way) → inner.views.way y ≡ Some w
@@ -448,13 +447,12 @@ module _ (table : Table) (typed : TypedProgram) (effects : Effects) (input : Lis
           by_view : (b : Bool) → is_anonymous (view_of s x) ≡ b → LeadsFrom (Declare x v) (turn main_turn (Declare x v))
           by_view true view =
               let source = orderly.declared x v e view in
-              elim source.6 [
-                | inl is ↦ from_source v refl source.0 source.1 source.3 source.2 (source.5 ∙ ap (λ z. More z NoMore) is) view source.7 source.8
-                | inr (r, n, more, is, gives) ↦ absurd (gives_many n (object_at s x).of gives
-                    (plain_call r n (More (Name source.0 source.1 source.2 source.3) more)
-                    (first_plain (CallIn r n (More (Name source.0 source.1 source.2 source.3) more))
-                    (subst (GivesPlainly s) (source.5 ∙ ap (λ z. More z NoMore) is) (subst (TakesScalars s) e plain.1)))))
-              ]
+              by_either source.6
+              (λ is. (from_source v refl source.0 source.1 source.3 source.2 (source.5 ∙ ap (λ z. More z NoMore) is) view source.7 source.8))
+              (λ (r, n, more, is, gives). (absurd (gives_many n (object_at s x).of gives
+              (plain_call r n (More (Name source.0 source.1 source.2 source.3) more)
+              (first_plain (CallIn r n (More (Name source.0 source.1 source.2 source.3) more))
+              (subst (GivesPlainly s) (source.5 ∙ ap (λ z. More z NoMore) is) (subst (TakesScalars s) e plain.1)))))))
           by_view false owner =
               declared_main (Declare x v) x v (declare_on easy sees seeing ready.accepted.settled ready.owns other alone in_formals inner.views ready.class.parts_named may refl refl given_words
               x v (plain_named s.table (object_at s x).of owner) (orderly.begun x v e) text (subst (TakesScalars s) e plain.1) (takes_of plain.0 (Declare x v) e)
@@ -495,21 +493,19 @@ module _ (table : Table) (typed : TypedProgram) (effects : Effects) (input : Lis
           itself_lasts view plain within = inr (within, view_ends s x (anonymous_view s x view), ready.orderly.itself _, plain)
 
           within_now : is_anonymous (view_of s x) ≡ true → is_within x (scope_behind inner.p) ≡ true
-          within_now view = elim (stored_which (Assign (Name q x steps u) e) is x (inl refl)) [
-            | inl shared ↦ absurd (true_false (is_package_object s x) shared (local x (anonymous_view s x view)))
-            | inr within ↦ more x within
-          ]
+          within_now view = by_either (stored_which (Assign (Name q x steps u) e) is x (inl refl))
+              (λ shared. (absurd (true_false (is_package_object s x) shared (local x (anonymous_view s x view)))))
+              (λ within. (more x within))
 
           to_view : Source s (object_at s x).of e → is_anonymous (view_of s x) ≡ true
               → inner.p.instr ≡ Assign (Name q x NoMore (object_at s x).of) e
               → AllowsAll facts_now (acts_of_main (Assign (Name q x NoMore (object_at s x).of) e)) → Goal (Name q x NoMore (object_at s x).of) e
           to_view source view instr_is allowed_here =
               let found = orderly.assigned q x (object_at s x).of e instr_is view in
-              elim found.4 [
-                | inl named_so ↦ from_name found.0 found.1 found.3 found.2 named_so found.5 found.6
-                | inr (r, n, more, call_is, gives) ↦ absurd (gives_many n (object_at s x).of gives
-                    (plain_call r n (More (Name found.0 found.1 found.2 found.3) more) (subst (GivesPlainly s) call_is (subst (TakesScalars s) instr_is plain.1))))
-              ]
+              by_either found.4
+              (λ named_so. (from_name found.0 found.1 found.3 found.2 named_so found.5 found.6))
+              (λ (r, n, more, call_is, gives). (absurd (gives_many n (object_at s x).of gives
+              (plain_call r n (More (Name found.0 found.1 found.2 found.3) more) (subst (GivesPlainly s) call_is (subst (TakesScalars s) instr_is plain.1))))))
             where
               from_name : (r : Pos) (y w : ℕ) (steps_after : TypedTree) → e ≡ Name r y steps_after w → (is_observer s x ≡ true → Lasts program inner.p.scope y x)
                   → (is_observer s x ≡ false → y ≡ x) → Goal (Name q x NoMore (object_at s x).of) e
@@ -518,10 +514,9 @@ module _ (table : Table) (typed : TypedProgram) (effects : Effects) (input : Lis
                   let variable_here : is_variable (object_at s x).kind ≡ true = orderly.variables x (inl (inr (q, of, e, instr_is))) view in
                   let from : may x y = (
                     record {
-                      lasts = elim (bool_cases (is_observer s x)) [
-                        | inl sight ↦ lasts_behind y x (lasts sight)
-                        | inr borrows ↦ subst (λ z. Lasts program (scope_behind inner.p) z x) (sym (itself borrows)) (itself_lasts view (variable_stays x variable_here) (within_now view))
-                      ];
+                      lasts = by_either (bool_cases (is_observer s x))
+                          (λ sight. (lasts_behind y x (lasts sight)))
+                          (λ borrows. (subst (λ z. Lasts program (scope_behind inner.p) z x) (sym (itself borrows)) (itself_lasts view (variable_stays x variable_here) (within_now view))));
                       within = within_now view;
                       view = view;
                       plain = variable_stays x variable_here;
@@ -540,24 +535,22 @@ module _ (table : Table) (typed : TypedProgram) (effects : Effects) (input : Lis
                   (subst (λ z. AllowsAll facts_now (acts_of_main (Assign (Name q x NoMore of) z))) here_is allowed_here)))
 
           by_view : Source s u e → (b : Bool) → is_anonymous (full s.table u) ≡ b → Goal (Name q x steps u) e
-          by_view source (false) owner = elim source [
-            | inl view ↦ absurd (true_false (is_anonymous (full s.table u)) view.0 owner)
-            | inr gives ↦ (
-                let two = takes_both (waits_in e) (waits_in steps) given_words [] (takes_of plain.0 (Assign (Name q x steps u) e) is) in
-                assigned_main (Assign (Name q x steps u) e) (Name q x steps u) u e
-                (assign_on easy sees seeing ready.accepted.settled ready.owns other alone inner.views ready.class.parts_named may refl refl given_words two.0
-                inner.p.pos q x u steps e (plain_named s.table u owner) gives leads
-                (subst (TakesScalars s) is plain.1) two.1 two.2
-                facts_now (good plain.0) allowed_there keep))
-          ]
-          by_view source true view = elim (leads_or s ready.class.parts_named steps (object_at s x).of u leads) [
-            | inr own_type ↦ absurd (true_false (is_anonymous (full s.table u)) view (named_plain s.table u own_type))
-            | inl whole ↦ (
-                let target_is : Name q x steps u ≡ Name q x NoMore (object_at s x).of = (λ j. Name q x (whole.0 j) (sym whole.1 j)) in
-                subst (λ z. Goal z e) (sym target_is)
-                (to_view (subst (λ z. Source s z e) (sym whole.1) source) (ap (λ z. is_anonymous (full s.table z)) whole.1 ∙ view)
-                (is ∙ ap (λ z. Assign z e) target_is) (subst (λ z. AllowsAll facts_now (acts_of_main (Assign z e))) target_is allowed_there)))
-          ]
+          by_view source (false) owner = by_either source
+              (λ view. (absurd (true_false (is_anonymous (full s.table u)) view.0 owner)))
+              (λ gives. (
+              let two = takes_both (waits_in e) (waits_in steps) given_words [] (takes_of plain.0 (Assign (Name q x steps u) e) is) in
+              assigned_main (Assign (Name q x steps u) e) (Name q x steps u) u e
+              (assign_on easy sees seeing ready.accepted.settled ready.owns other alone inner.views ready.class.parts_named may refl refl given_words two.0
+              inner.p.pos q x u steps e (plain_named s.table u owner) gives leads
+              (subst (TakesScalars s) is plain.1) two.1 two.2
+              facts_now (good plain.0) allowed_there keep)))
+          by_view source true view = by_either (leads_or s ready.class.parts_named steps (object_at s x).of u leads)
+              (λ whole. (
+              let target_is : Name q x steps u ≡ Name q x NoMore (object_at s x).of = (λ j. Name q x (whole.0 j) (sym whole.1 j)) in
+              subst (λ z. Goal z e) (sym target_is)
+              (to_view (subst (λ z. Source s z e) (sym whole.1) source) (ap (λ z. is_anonymous (full s.table z)) whole.1 ∙ view)
+              (is ∙ ap (λ z. Assign z e) target_is) (subst (λ z. AllowsAll facts_now (acts_of_main (Assign z e))) target_is allowed_there))))
+              (λ own_type. (absurd (true_false (is_anonymous (full s.table u)) view (named_plain s.table u own_type))))
       assigns plain left target e is (v, never, source) allowed_there keep = absurd never
 
       -- ---- what changes no view

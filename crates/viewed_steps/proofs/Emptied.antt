@@ -22,6 +22,7 @@ use Rattle.std.specs.List.{filter}
 use Rattle.soundness.specs.OwnedLoans.Views.{Views, AreClear, expand}
 use Rattle.viewed_steps.proofs.Between.{OwnersStand}
 use Rattle.soundness.proofs.OwnedLoans.Moves.{IsPlace, expand_under}
+use Rattle.soundness.proofs.Parted.{by_either}
 
 -- The numbers at a place and in it are leaked, and the place has none.
 pub record IsEmptied (s t : View) (l : Loc) : Type 0 where
@@ -140,13 +141,9 @@ module _ (home : ℕ → ℕ) (v : Views) (before_it gone : Way → Type 0) wher
   taken_back s u facts facts' stand left more adds = record {
     owned = stand.owned;
     covered = stand.covered;
-    known = λ w m n r h. elim (stand.known w m n r h) [
-      | inr else ↦ inr (more w else)
-      | inl (z, moved, leads) ↦ elim (left.moved z moved.0 moved.1) [
-        | inl stays ↦ inl (z, (moved.0, stays), leads)
-        | inr under ↦ inr (adds w (subst (Under u) leads under))
-      ]
-    ];
+    known = λ w m n r h. by_either (stand.known w m n r h)
+        (λ (z, moved, leads). (by_either (left.moved z moved.0 moved.1) (λ stays. (inl (z, (moved.0, stays), leads))) (λ under. (inr (adds w (subst (Under u) leads under))))))
+        (λ else. (inr (more w else)));
   }
 
   pub emptied : (s t : View) (u : Way) (l : Loc) (facts facts' : List Fact) → IsEmptied s t l → OwnersStand home v facts before_it s → IsRooted u
@@ -156,17 +153,14 @@ module _ (home : ℕ → ℕ) (v : Views) (before_it gone : Way → Type 0) wher
   emptied s t u l facts facts' d stand rooted reaches left more adds = record {
     owned = owned_then s t l d stand.owned;
     covered = covered_then s t l d stand.covered;
-    known = λ w m n r h. elim (below l m) [
-      | inl b ↦ (
-          let same : w ≡ along u b.0 =
-          one_way s stand.owned w (along u b.0) m (before s t l d w m n r) (subst (Reaches s (along u b.0)) (sym b.1) (reaches_along s u l b.0 reaches)) in
-          inr (subst gone (sym same) (adds b.0)))
-      | inr outside ↦ elim (stand.known w m n (before s t l d w m n r) (sym (d.off m outside) ∙ h)) [
-        | inr else ↦ inr (more w else (λ under. outside (inside_there s t l d stand.owned u rooted reaches w m n under r)))
-        | inl (z, moved, leads) ↦ elim (left.moved z moved.0 moved.1) [
-          | inl stays ↦ inl (z, (moved.0, stays), leads)
-          | inr under ↦ absurd (outside (inside_there s t l d stand.owned u rooted reaches w m n (subst (Under u) leads under) r))
-        ]
-      ]
-    ];
+    known = λ w m n r h. by_either (below l m)
+        (λ b. (
+        let same : w ≡ along u b.0 =
+        one_way s stand.owned w (along u b.0) m (before s t l d w m n r) (subst (Reaches s (along u b.0)) (sym b.1) (reaches_along s u l b.0 reaches)) in
+        inr (subst gone (sym same) (adds b.0))))
+        (λ outside. (by_either (stand.known w m n (before s t l d w m n r) (sym (d.off m outside) ∙ h))
+        (λ (z, moved, leads). (by_either (left.moved z moved.0 moved.1)
+        (λ stays. (inl (z, (moved.0, stays), leads)))
+        (λ under. (absurd (outside (inside_there s t l d stand.owned u rooted reaches w m n (subst (Under u) leads under) r))))))
+        (λ else. (inr (more w else (λ under. outside (inside_there s t l d stand.owned u rooted reaches w m n under r)))))));
   }

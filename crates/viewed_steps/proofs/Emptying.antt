@@ -30,6 +30,7 @@ use Rattle.viewed_steps.proofs.Vacated.{vacated, vacated_gone, default_same}
 use Rattle.viewed_steps.proofs.Outs.{HasStill, places_apart, ways_apart}
 use Rattle.viewed_steps.proofs.Views.{AreAccess, view_cases, AreOnly}
 use Rattle.viewed_steps.proofs.Entered.{inside_no_view}
+use Rattle.soundness.proofs.Parted.{by_either}
 
 frames_differ : (f y g z : ℕ) → (f ≡ g → ⊥) → OfVariable f y ≡ OfVariable g z → ⊥
 frames_differ f y g z ne e = (let same : f ≡ g = cc in ne same)
@@ -152,13 +153,11 @@ module _ (s : Typing) (sees : ℕ → Bool) (settled : IsSettled s.table) (own_l
 
     gone_then : (g y : ℕ) (p : List Step) → word_in s.table (content s m [] (OfRoot (OfVariable g y))) p ≡ Gone
         → word_in s.table (content s next [] (OfRoot (OfVariable g y))) p ≡ Gone
-    gone_then g y p gone_there = elim (below at (part (OfRoot (OfVariable g y)) p)) [
-      | inl (q, is) ↦
-          seen_next g y p ∙ ap (seen s mid hands found).word is
-          ∙ vacated_gone s settled m hands leaks k at typed spot (inside_owns s depth k to passed.inside settled m hands leaks typed stand.owned there) found q
-          (ap (seen s m hands leaks).word (sym is) ∙ seen_before g y p ∙ gone_there)
-      | inr off ↦ seen_next g y p ∙ change.off (part (OfRoot (OfVariable g y)) p) off ∙ seen_before g y p ∙ gone_there
-    ]
+    gone_then g y p gone_there = by_either (below at (part (OfRoot (OfVariable g y)) p))
+        (λ (q, is). (seen_next g y p ∙ ap (seen s mid hands found).word is
+        ∙ vacated_gone s settled m hands leaks k at typed spot (inside_owns s depth k to passed.inside settled m hands leaks typed stand.owned there) found q
+        (ap (seen s m hands leaks).word (sym is) ∙ seen_before g y p ∙ gone_there)))
+        (λ off. (seen_next g y p ∙ change.off (part (OfRoot (OfVariable g y)) p) off ∙ seen_before g y p ∙ gone_there))
 
     pub out_carried : AreCarried s (λ g. g ≡ suc depth → ⊥) cells [] m next
     out_carried = record {
@@ -167,13 +166,11 @@ module _ (s : Typing) (sees : ℕ → Bool) (settled : IsSettled s.table) (own_l
       in_cells = λ n p c off held.
           sym (cell_before n p)
           ∙ (owner_before (seen s m hands leaks) (seen s mid hands found) at change (part (OfCell n) p) c (sym (cell_next n p) ∙ held)).0;
-      gone_cells = λ n p off gone_there. elim (below at (part (OfCell n) p)) [
-        | inl (q, is) ↦
-            cell_next n p ∙ ap (seen s mid hands found).word is
-            ∙ vacated_gone s settled m hands leaks k at typed spot (inside_owns s depth k to passed.inside settled m hands leaks typed stand.owned there) found q
-            (ap (seen s m hands leaks).word (sym is) ∙ cell_before n p ∙ gone_there)
-        | inr off ↦ cell_next n p ∙ change.off (part (OfCell n) p) off ∙ cell_before n p ∙ gone_there
-      ];
+      gone_cells = λ n p off gone_there. by_either (below at (part (OfCell n) p))
+          (λ (q, is). (cell_next n p ∙ ap (seen s mid hands found).word is
+          ∙ vacated_gone s settled m hands leaks k at typed spot (inside_owns s depth k to passed.inside settled m hands leaks typed stand.owned there) found q
+          (ap (seen s m hands leaks).word (sym is) ∙ cell_before n p ∙ gone_there)))
+          (λ off. (cell_next n p ∙ change.off (part (OfCell n) p) off ∙ cell_before n p ∙ gone_there));
     }
 
     pub out_bare : IsBare s depth k to next passed.inside
@@ -184,13 +181,11 @@ module _ (s : Typing) (sees : ℕ → Bool) (settled : IsSettled s.table) (own_l
         ∙ sym (start_word (p ++ (passed.inside).steps)) ∙ held)
       where
         start_word : (q : List Step) → word_in s.table (content s next [] (passed.inside).start) q ≡ word_in s.table (content s mid [] (passed.inside).start) q
-        start_word q = elim (passed.inside).stands [
-          | inl variable ↦
-              subst (λ z. word_in s.table (content s next [] z) q ≡ word_in s.table (content s mid [] z) q) (sym variable.1)
-              (seen_next (passed.inside).frame (passed.inside).object q
-              ∙ word_root s.table (content s mid hands) (OfVariable (passed.inside).frame (passed.inside).object) q)
-          | inr cell ↦ subst (λ z. word_in s.table (content s next [] z) q ≡ word_in s.table (content s mid [] z) q) (sym cell.1) refl
-        ]
+        start_word q = by_either (passed.inside).stands
+            (λ variable. (subst (λ z. word_in s.table (content s next [] z) q ≡ word_in s.table (content s mid [] z) q) (sym variable.1)
+            (seen_next (passed.inside).frame (passed.inside).object q
+            ∙ word_root s.table (content s mid hands) (OfVariable (passed.inside).frame (passed.inside).object) q)))
+            (λ cell. (subst (λ z. word_in s.table (content s next [] z) q ≡ word_in s.table (content s mid [] z) q) (sym cell.1) refl))
 
     pub out_stays : (w : Way) → (Past to w → ⊥) → (c : ℕ) → Reaches (seen s m hands leaks) w (OfCell c) → Reaches (seen s next hands found) w (OfCell c)
     out_stays w aside c reach =

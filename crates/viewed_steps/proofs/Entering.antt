@@ -35,6 +35,7 @@ use Rattle.viewed_steps.proofs.Outs.{Out, IsUnderOne, found_in, HasStill, HaveSt
 use Rattle.viewed_steps.proofs.Entered.{IsPlainPassed, IsPlainOne, DiffersFrom, ArePassedOn, IsOpen, AreBlank, passed_base, outs_taken, stand_next, kept_next, one_held, one_carried, one_views, one_bare, one_stays, one_blank, one_still, IsShownTo, HasWords}
 use Rattle.viewed_steps.proofs.Emptying.{out_stand, out_kept, out_views, out_blank, out_held, out_carried, out_bare, out_stays, out_still}
 use Rattle.viewed_steps.proofs.Constructors.{is_held_word, is_value_passed}
+use Rattle.soundness.proofs.Parted.{by_either}
 
 -- what has a number owns
 pub owns_there : (s : Typing) → IsSettled s.table → OwnsByShape s.table → (m : Memory) (f x : ℕ) (q : List Step) (k : ℕ)
@@ -146,17 +147,10 @@ module _ (s : Typing) (sees : ℕ → Bool) (settled : IsSettled s.table) (own_l
   plain_then other leaks found x a formals passed ways before m then_m n plain on later = (
     record {
       typed = later.0.typed;
-      held = λ g y p c held. elim (later.0.held g y p c held) [
-        | inl h ↦ inl (sym (on.hold g y p) ∙ h)
-        | inr h ↦ inr (h.0, inr h.1)
-      ];
-      views = λ g y view. elim (later.0.views g y view) [
-        | inr shown ↦ inr (shown.0, shown.1, inr shown.2, shown.3)
-        | inl same ↦ elim (on.views g y view) [
-          | inl before_it ↦ inl (λ i. same i ∙ before_it i)
-          | inr mine ↦ inr (mine.0, mine.2, inl (mine.1, mine.3), λ i. same i ∙ mine.4 i)
-        ]
-      ];
+      held = λ g y p c held. by_either (later.0.held g y p c held) (λ h. (inl (sym (on.hold g y p) ∙ h))) (λ h. (inr (h.0, inr h.1)));
+      views = λ g y view. by_either (later.0.views g y view)
+          (λ same. (by_either (on.views g y view) (λ before_it. (inl (λ i. same i ∙ before_it i))) (λ mine. (inr (mine.0, mine.2, inl (mine.1, mine.3), λ i. same i ∙ mine.4 i)))))
+          (λ shown. (inr (shown.0, shown.1, inr shown.2, shown.3)));
       carried = carried_then s (λ g. g ≡ suc depth → ⊥) cells [] [] [] m then_m n (λ w taken. taken) (λ w taken. taken)
           (carried_same s (λ g. g ≡ suc depth → ⊥) cells [] m then_m on.hold (λ c p. cells_same s m then_m hands leaks on.same c p)) later.0.carried;
       stays = λ w g y base other_frame aside c reach. later.0.stays w g y base other_frame aside c (same_reaches (seen s m hands leaks) (seen s then_m hands leaks) on.same w (OfCell c) reach);
@@ -179,22 +173,17 @@ module _ (s : Typing) (sees : ℕ → Bool) (settled : IsSettled s.table) (own_l
   taken_then other leaks mid found x k a to formals passed ways m next n return_is one apart differ held views bare carried one_stays later = (
     record {
       typed = later.0.typed;
-      held = λ g y p c is. elim (later.0.held g y p c is) [
-        | inr h ↦ inr (h.0, inr h.1)
-        | inl h ↦ elim (held g y p c h) [ inl before ↦ inl before | inr mine ↦ inr (mine.0, inl (sym mine.1)) ]
-      ];
-      views = λ g y view. elim (later.0.views g y view) [
-        | inr shown ↦ inr (shown.0, shown.1, inr shown.2, shown.3)
-        | inl same ↦ inl (λ i. same i ∙ views g y i view)
-      ];
+      held = λ g y p c is. by_either (later.0.held g y p c is)
+          (λ h. (by_either (held g y p c h) (λ before. (inl before)) (λ mine. (inr (mine.0, inl (sym mine.1))))))
+          (λ h. (inr (h.0, inr h.1)));
+      views = λ g y view. by_either (later.0.views g y view) (λ same. (inl (λ i. same i ∙ views g y i view))) (λ shown. (inr (shown.0, shown.1, inr shown.2, shown.3)));
       carried = carried_then s (λ g. g ≡ suc depth → ⊥) cells [] [] [] m next n (λ w taken. taken) (λ w taken. taken) carried later.0.carried;
       stays = λ w g y base other_frame aside c reach. later.0.stays w g y base other_frame (λ z has. aside z (inr has)) c (one_stays w g y base other_frame (aside to (inl refl)) c reach);
     },
     more_gone (home s depth) v facts (taken_also (away other to) ways) (taken_also other (to ∷ ways)) (seen s n hands found)
-        (λ w o. elim o [
-          | inr taken ↦ inr (taken_more to ways w taken)
-          | inl before ↦ elim before [ inl away ↦ inl away | inr (p, is) ↦ inr (to, inl refl, p, is) ]
-        ]) later.1,
+        (λ w o. by_either o
+        (λ before. (by_either before (λ away. (inl away)) (λ (p, is). (inr (to, inl refl, p, is)))))
+        (λ taken. (inr (taken_more to ways w taken)))) later.1,
     subst (λ z. AreTaken s sees cells n depth v facts scope z (to ∷ ways)) (sym return_is) (inr (
       (
         one,
@@ -207,17 +196,11 @@ module _ (s : Typing) (sees : ℕ → Bool) (settled : IsSettled s.table) (own_l
   )
     where
       start_before : (q : List Step) (c : ℕ) → word_in s.table (content s n [] (one.inside).start) q ≡ Held c → word_in s.table (content s next [] (one.inside).start) q ≡ Held c
-      start_before q c is = elim (one.inside).stands [
-        | inl variable ↦
-            subst (λ z. word_in s.table (content s next [] z) q ≡ Held c) (sym variable.1)
-            (elim (later.0.held (one.inside).frame (one.inside).object q c (subst (λ z. word_in s.table (content s n [] z) q ≡ Held c) variable.1 is)) [
-              | inl h ↦ h
-              | inr h ↦ (let same = h.0 in let low = inside_low s depth k to one.inside in absurd (omega (arith, same, low)))
-            ])
-        | inr cell ↦
-            subst (λ z. word_in s.table (content s next [] z) q ≡ Held c) (sym cell.1)
-            ((later.0.carried).in_cells cell.0 q c (λ taken. (taken.3).1) (subst (λ z. word_in s.table (content s n [] z) q ≡ Held c) cell.1 is))
-      ]
+      start_before q c is = by_either (one.inside).stands
+          (λ variable. (subst (λ z. word_in s.table (content s next [] z) q ≡ Held c) (sym variable.1)
+          (by_either (later.0.held (one.inside).frame (one.inside).object q c (subst (λ z. word_in s.table (content s n [] z) q ≡ Held c) variable.1 is)) (λ h. (h)) (λ h. (let same = h.0 in let low = inside_low s depth k to one.inside in absurd (omega (arith, same, low)))))))
+          (λ cell. (subst (λ z. word_in s.table (content s next [] z) q ≡ Held c) (sym cell.1)
+          ((later.0.carried).in_cells cell.0 q c (λ taken. (taken.3).1) (subst (λ z. word_in s.table (content s n [] z) q ≡ Held c) cell.1 is))))
 
   -- ---- what is known elsewhere after one is taken
 
@@ -250,16 +233,11 @@ module _ (s : Typing) (sees : ℕ → Bool) (settled : IsSettled s.table) (own_l
       | inr (inr (one, has, below)) ↦ (let root = from one.way (among one has) in
           hand_base h root.0 root.1 (sym (base_under (Object (OfHand h)) w under) ∙ base_under one.way w below ∙ root.2))
     ];
-    whole = λ z has w under o. elim has [
-      | inr never ↦ never
-      | inl same ↦ elim o [
-        | inl gone ↦ open_there.whole to (inl refl) w (subst (λ y. Under y w) (sym same) under) gone
-        | inr (one, has_one, below) ↦ elim (beginnings to one.way w (subst (λ y. Under y w) (sym same) under) below) [
-          | inl a ↦ (apart one.way (among one has_one)).0 a
-          | inr b ↦ (apart one.way (among one has_one)).1 b
-        ]
-      ]
-    ];
+    whole = λ z has w under o. by_either has
+        (λ same. (by_either o
+        (λ gone. (open_there.whole to (inl refl) w (subst (λ y. Under y w) (sym same) under) gone))
+        (λ (one, has_one, below). (by_either (beginnings to one.way w (subst (λ y. Under y w) (sym same) under) below) (λ a. ((apart one.way (among one has_one)).0 a)) (λ b. ((apart one.way (among one has_one)).1 b))))))
+        (λ never. (never));
   }
 
   -- the place of one that isn't emptied is gone beside those that are
@@ -267,10 +245,7 @@ module _ (s : Typing) (sees : ℕ → Bool) (settled : IsSettled s.table) (own_l
       → StandIn (away (outs_also other outs) to) leaks m → StandIn (outs_also (away other to) outs) leaks m
   beside_outs other to outs leaks m stand =
       more_gone (home s depth) v facts (away (outs_also other outs) to) (outs_also (away other to) outs) (seen s m hands leaks)
-      (λ w o. elim o [
-        | inr at ↦ inl (inr at)
-        | inl before ↦ elim before [ inl gone ↦ inl (inl gone) | inr under ↦ inr under ]
-      ]) stand
+      (λ w o. by_either o (λ before. (by_either before (λ gone. (inl (inl gone))) (λ under. (inr under)))) (λ at. (inl (inr at)))) stand
 
   -- What there is where the actuals are evaluated.
   pub record AtFirst (before : Memory) : Type 0 where
@@ -303,24 +278,19 @@ module _ (s : Typing) (sees : ℕ → Bool) (settled : IsSettled s.table) (own_l
       record {
         keeps = first.keeps;
         checks = λ p n held. first.checks p n (sym (same p) ∙ held);
-        only = λ n leaked. elim (first.only n leaked) [
-          | inl old ↦ inl old
-          | inr (p, held) ↦ inr (p, same p ∙ held)
-        ];
+        only = λ n leaked. by_either (first.only n leaked) (λ old. (inl old)) (λ (p, held). (inr (p, same p ∙ held)));
       }
     where
       start_still : (p : List Step) → word_in s.table (content s m [] (one.inside).start) (p ++ (one.inside).steps) ≡ word_in s.table (content s before [] (one.inside).start) (p ++ (one.inside).steps)
-      start_still p = elim (one.inside).stands [
-        | inl variable ↦
-            subst (λ z. word_in s.table (content s m [] z) (p ++ (one.inside).steps) ≡ word_in s.table (content s before [] z) (p ++ (one.inside).steps)) (sym variable.1)
-            (still.0 (one.inside).frame (one.inside).object (one.inside).steps p (inside_low s depth k to one.inside)
-            ((one.inside).way ∙ ap (λ z. along z (one.inside).steps) variable.0))
-        | inr cell ↦ (
-            let found = one.among cell.0 cell.1 in
-            subst (λ z. word_in s.table (content s m [] z) (p ++ (one.inside).steps) ≡ word_in s.table (content s before [] z) (p ++ (one.inside).steps))
-            (ap OfCell found.3 ∙ sym cell.1)
-            (still.1 found.0 (one.inside).steps p found.1 ((one.inside).way ∙ ap (λ z. along z (one.inside).steps) (sym found.2))))
-      ]
+      start_still p = by_either (one.inside).stands
+          (λ variable. (subst (λ z. word_in s.table (content s m [] z) (p ++ (one.inside).steps) ≡ word_in s.table (content s before [] z) (p ++ (one.inside).steps)) (sym variable.1)
+          (still.0 (one.inside).frame (one.inside).object (one.inside).steps p (inside_low s depth k to one.inside)
+          ((one.inside).way ∙ ap (λ z. along z (one.inside).steps) variable.0))))
+          (λ cell. (
+          let found = one.among cell.0 cell.1 in
+          subst (λ z. word_in s.table (content s m [] z) (p ++ (one.inside).steps) ≡ word_in s.table (content s before [] z) (p ++ (one.inside).steps))
+          (ap OfCell found.3 ∙ sym cell.1)
+          (still.1 found.0 (one.inside).steps p found.1 ((one.inside).way ∙ ap (λ z. along z (one.inside).steps) (sym found.2)))))
 
   -- ---- all of them
 
@@ -423,13 +393,9 @@ module _ (s : Typing) (sees : ℕ → Bool) (settled : IsSettled s.table) (own_l
       ))
       (out_stand s sees settled own_law in_formals hands leaks depth v only facts scope cells (outs_also other (out ∷ later)) (outs_also (away other to) later) x k to one
       m typed here new there_now found mine
-      (λ w o off. elim o [
-        | inl gone ↦ inl (inl gone)
-        | inr (other_one, has_one, under) ↦ elim has_one [
-          | inl first ↦ absurd (off (subst (λ (z : Out). Under z.way w) (sym first) under))
-          | inr rest ↦ inr (other_one, rest, under)
-        ]
-      ]) (λ p. inl (inr (p, refl))))
+      (λ w o off. by_either o
+      (λ gone. (inl (inl gone)))
+      (λ (other_one, has_one, under). (by_either has_one (λ first. (absurd (off (subst (λ (z : Out). Under z.way w) (sym first) under)))) (λ rest. (inr (other_one, rest, under)))))) (λ p. inl (inr (p, refl))))
       (λ y has p. out_blank s sees settled own_law in_formals hands leaks depth v only facts scope cells (outs_also other (out ∷ later)) (outs_also (away other to) later) x k to one
       m typed here new there_now found y (differ y has) p (blank y (inr has) p))
       (λ o has. still_then s cells depth before m next o.way (still o (subst (λ z. Has z o) (sym same) (inr has)))

@@ -31,6 +31,7 @@ use Rattle.viewed_steps.specs.Sound.{IsCopiedBack}
 use Rattle.viewed_steps.proofs.Cells.{passed_formal}
 use Rattle.viewed_steps.proofs.Passed.{no_call_reports}
 use Rattle.viewed_steps.proofs.Whole.{flat_has}
+use Rattle.soundness.proofs.Parted.{by_either}
 
 either_of : (a b : Bool) → (a ≡ true) ⊎ (b ≡ true) → a || b ≡ true
 either_of true b e = refl
@@ -190,27 +191,25 @@ module _ (s : Typing) (procedure : Bool) where
       → (a : Placed) × Has (actual_acts (map (passing s procedure) formals) actuals) a
       × (a.act ≡ act.Actual b.actual.name mode.In true (procedure && is_named_access (view_of s b.formal)))
   shown_act (x ∷ formals) (More e rest) b has of_in owning =
-      elim (Has-append_cases (alias.passed_as x (written e)) (alias.passed formals rest) b has) [
-        | inl mine ↦ (
-            let one = shown_act_one x e b mine of_in owning in
-            (one.0, Has-append_left (actual_act (passing s procedure x) e) (actual_acts (map (passing s procedure) formals) rest) one.0 one.1, one.2))
-        | inr later ↦ (
-            let one = shown_act formals rest b later of_in owning in
-            (one.0, Has-append_right (actual_act (passing s procedure x) e) (actual_acts (map (passing s procedure) formals) rest) one.0 one.1, one.2))
-      ]
+      by_either (Has-append_cases (alias.passed_as x (written e)) (alias.passed formals rest) b has)
+      (λ mine. (
+      let one = shown_act_one x e b mine of_in owning in
+      (one.0, Has-append_left (actual_act (passing s procedure x) e) (actual_acts (map (passing s procedure) formals) rest) one.0 one.1, one.2)))
+      (λ later. (
+      let one = shown_act formals rest b later of_in owning in
+      (one.0, Has-append_right (actual_act (passing s procedure x) e) (actual_acts (map (passing s procedure) formals) rest) one.0 one.1, one.2)))
   shown_act [] actuals b has of_in owning = absurd has
   shown_act (x ∷ formals) actuals b has of_in owning = absurd has
 
   pub copied_act : (formals : List ℕ) (actuals : TypedTree) (b : alias.Passed) → Has (alias.passed formals actuals) b → IsCopiedBack s b.formal
       → (a : Placed) × Has (actual_acts (map (passing s procedure) formals) actuals) a × (act_writes b.actual.name.root a.act ≡ true)
   copied_act (x ∷ formals) (More e rest) b has back =
-      elim (Has-append_cases (alias.passed_as x (written e)) (alias.passed formals rest) b has) [
-        | inl mine ↦ (
-            let one = one_act x e b mine back in
-            (one.0, Has-append_left (actual_act (passing s procedure x) e) (actual_acts (map (passing s procedure) formals) rest) one.0 one.1, one.2))
-        | inr later ↦ (
-            let one = copied_act formals rest b later back in
-            (one.0, Has-append_right (actual_act (passing s procedure x) e) (actual_acts (map (passing s procedure) formals) rest) one.0 one.1, one.2))
-      ]
+      by_either (Has-append_cases (alias.passed_as x (written e)) (alias.passed formals rest) b has)
+      (λ mine. (
+      let one = one_act x e b mine back in
+      (one.0, Has-append_left (actual_act (passing s procedure x) e) (actual_acts (map (passing s procedure) formals) rest) one.0 one.1, one.2)))
+      (λ later. (
+      let one = copied_act formals rest b later back in
+      (one.0, Has-append_right (actual_act (passing s procedure x) e) (actual_acts (map (passing s procedure) formals) rest) one.0 one.1, one.2)))
   copied_act [] actuals b has back = absurd has
   copied_act (x ∷ formals) actuals b has back = absurd has

@@ -33,6 +33,7 @@ use Rattle.soundness.specs.ViewedSoundness.Holds.{is_view}
 use Rattle.viewed_steps.specs.Sound.{ViewStage, GoneElsewhere}
 use Rattle.viewed_steps.proofs.Waiting.{StandsBetween, AreTheirs, LentElsewhere, beside_them, handed, lent_handed, none_moved, loans_has, near_lent, far_met, unused_there}
 use Rattle.viewed_steps.specs.Seeing.{sees_in}
+use Rattle.soundness.proofs.Parted.{by_either}
 
 both_first : (a b : Bool) → a && b ≡ true → a ≡ true
 both_first true b e = refl
@@ -72,37 +73,26 @@ module _ (table : Table) (typed : TypedProgram) (effects : Effects)
   -- facts stay clear beside theirs
   pub clear_with : (facts : List Fact) → AreApart facts → AreClear sees facts → AreClear sees (facts ++ handed_on)
   clear_with facts apart own = record {
-    moved = λ l h n m has lends over. elim (cases (Moved n) has) [
-      | inl fact ↦ elim (cases (Lent l h m) lends) [
-        | inl mine ↦ own.moved l h n m fact mine over
-        | inr there ↦ apart.own_moved n fact l m (lent_handed table typed effects unmoved local state depth older between l h m there).1 (same_root n m over)
-      ]
-      | inr away ↦ none_moved table typed effects unmoved local state depth older between n away
-    ];
-    lent = λ b h n m one two off over. elim (cases (Lent Borrowed b n) one) [
-      | inl fact ↦ elim (cases (Lent Borrowed h m) two) [
-        | inl mine ↦ own.lent b h n m fact mine off over
-        | inr there ↦ apart.own_borrowed b n fact Borrowed m (lent_handed table typed effects unmoved local state depth older between Borrowed h m there).1 (same_root n m over)
-      ]
-      | inr away ↦ elim (cases (Lent Borrowed h m) two) [
-        | inl mine ↦ apart.own_borrowed h m mine Borrowed n (lent_handed table typed effects unmoved local state depth older between Borrowed b n away).1 (sym (same_root n m over))
-        | inr there ↦ off ((lent_handed table typed effects unmoved local state depth older between Borrowed b n away).0 ∙ same_root n m over ∙ sym (lent_handed table typed effects unmoved local state depth older between Borrowed h m there).0)
-      ]
-    ];
-    seen = λ b h n m one two over. elim (cases (Lent Borrowed b n) one) [
-      | inl fact ↦ elim (cases (Lent Observed h m) two) [
-        | inl mine ↦ own.seen b h n m fact mine over
-        | inr there ↦ apart.own_borrowed b n fact Observed m (lent_handed table typed effects unmoved local state depth older between Observed h m there).1 (same_root n m over)
-      ]
-      | inr away ↦ elim (cases (Lent Observed h m) two) [
-        | inl mine ↦ apart.own_seen h m mine n (lent_handed table typed effects unmoved local state depth older between Borrowed b n away).1 (same_root n m over)
-        | inr there ↦ apart.seen n m (lent_handed table typed effects unmoved local state depth older between Borrowed b n away).1 (lent_handed table typed effects unmoved local state depth older between Observed h m there).1 over
-      ]
-    ];
-    owned = λ n has. elim (cases (Moved n) has) [
-      | inl fact ↦ own.owned n fact
-      | inr there ↦ absurd (none_moved table typed effects unmoved local state depth older between n there)
-    ];
+    moved = λ l h n m has lends over. by_either (cases (Moved n) has)
+        (λ fact. (by_either (cases (Lent l h m) lends)
+        (λ mine. (own.moved l h n m fact mine over))
+        (λ there. (apart.own_moved n fact l m (lent_handed table typed effects unmoved local state depth older between l h m there).1 (same_root n m over)))))
+        (λ away. (none_moved table typed effects unmoved local state depth older between n away));
+    lent = λ b h n m one two off over. by_either (cases (Lent Borrowed b n) one)
+        (λ fact. (by_either (cases (Lent Borrowed h m) two)
+        (λ mine. (own.lent b h n m fact mine off over))
+        (λ there. (apart.own_borrowed b n fact Borrowed m (lent_handed table typed effects unmoved local state depth older between Borrowed h m there).1 (same_root n m over)))))
+        (λ away. (by_either (cases (Lent Borrowed h m) two)
+        (λ mine. (apart.own_borrowed h m mine Borrowed n (lent_handed table typed effects unmoved local state depth older between Borrowed b n away).1 (sym (same_root n m over))))
+        (λ there. (off ((lent_handed table typed effects unmoved local state depth older between Borrowed b n away).0 ∙ same_root n m over ∙ sym (lent_handed table typed effects unmoved local state depth older between Borrowed h m there).0)))));
+    seen = λ b h n m one two over. by_either (cases (Lent Borrowed b n) one)
+        (λ fact. (by_either (cases (Lent Observed h m) two)
+        (λ mine. (own.seen b h n m fact mine over))
+        (λ there. (apart.own_borrowed b n fact Observed m (lent_handed table typed effects unmoved local state depth older between Observed h m there).1 (same_root n m over)))))
+        (λ away. (by_either (cases (Lent Observed h m) two)
+        (λ mine. (apart.own_seen h m mine n (lent_handed table typed effects unmoved local state depth older between Borrowed b n away).1 (same_root n m over)))
+        (λ there. (apart.seen n m (lent_handed table typed effects unmoved local state depth older between Borrowed b n away).1 (lent_handed table typed effects unmoved local state depth older between Observed h m there).1 over))));
+    owned = λ n has. by_either (cases (Moved n) has) (λ fact. (own.owned n fact)) (λ there. (absurd (none_moved table typed effects unmoved local state depth older between n there)));
   }
     where
       cases : (f : Fact) → Has (facts ++ handed_on) f → Has facts f ⊎ Has handed_on f
@@ -168,10 +158,9 @@ module _ (table : Table) (typed : TypedProgram) (effects : Effects)
     known = λ w l rooted r gone. elim (well.known w l rooted r gone) [
       | inr away ↦ inr away.1
       | inl (inr away) ↦ inr away.1
-      | inl (inl (u, moved, leads)) ↦ elim (from (Moved (name_of u)) moved.1) [
-        | inl mine ↦ inl (inl (u, (moved.0, mine), leads))
-        | inr there ↦ absurd (none_moved table typed effects unmoved local state depth older between (name_of u) there)
-      ]
+      | inl (inl (u, moved, leads)) ↦ by_either (from (Moved (name_of u)) moved.1)
+          (λ mine. (inl (inl (u, (moved.0, mine), leads))))
+          (λ there. (absurd (none_moved table typed effects unmoved local state depth older between (name_of u) there)))
     ];
     clear = record {
       moved = λ l h n m has lends over. well.clear.moved l h n m (part (Moved n) has) (part (Lent l h m) lends) over;
@@ -179,17 +168,14 @@ module _ (table : Table) (typed : TypedProgram) (effects : Effects)
       seen = λ b h n m one two over. well.clear.seen b h n m (part (Lent Borrowed b n) one) (part (Lent Observed h m) two) over;
       owned = λ n has. well.clear.owned n (part (Moved n) has);
     };
-    whole = λ x w z has outer gone meets. elim (near_or_far depth z) [
-      | inr far ↦ well.whole x w z has outer (far, gone) meets
-      | inl near ↦ elim outer [
-        | inr given ↦ well.whole_away x w z has given (near_lent table typed effects unmoved local state depth older between z near gone, gone) meets
-        | inl foreign ↦ (far_met table typed effects unmoved local state depth older between w z foreign gone meets).0 near
-      ]
-    ];
-    whole_parts = λ x p w z has gone meets. elim (near_or_far depth z) [
-      | inr far ↦ well.whole_parts x p w z has (far, gone) meets
-      | inl near ↦ well.parts_away x p w z has (near_lent table typed effects unmoved local state depth older between z near gone, gone) meets
-    ];
+    whole = λ x w z has outer gone meets. by_either (near_or_far depth z)
+        (λ near. (by_either outer
+        (λ foreign. ((far_met table typed effects unmoved local state depth older between w z foreign gone meets).0 near))
+        (λ given. (well.whole_away x w z has given (near_lent table typed effects unmoved local state depth older between z near gone, gone) meets))))
+        (λ far. (well.whole x w z has outer (far, gone) meets));
+    whole_parts = λ x p w z has gone meets. by_either (near_or_far depth z)
+        (λ near. (well.parts_away x p w z has (near_lent table typed effects unmoved local state depth older between z near gone, gone) meets))
+        (λ far. (well.whole_parts x p w z has (far, gone) meets));
     views = (
       λ x w has.
           view_on (home s depth) sees (beside_them table typed effects unmoved local state depth older between) v view view all facts x w (well.views.0 x w has) (λ b n loan. loan_kept x w has b n loan)
@@ -204,16 +190,14 @@ module _ (table : Table) (typed : TypedProgram) (effects : Effects)
 
       -- the frame's own loans are held by its own objects
       loan_kept : (x : ℕ) (w : Way) → v.way x ≡ Some w → (b : Bool) (n : Name) → HasLoan sees b x all n → HasLoan sees b x facts n
-      loan_kept x w has true n (h, lent, sight) = elim (from (Lent Observed h n) lent) [
-        | inl mine ↦ (h, mine, sight)
-        | inr there ↦ absurd (let away = lent_handed table typed effects unmoved local state depth older between Observed h n there in
-            not_both (sees h) sight (plain h (ap (is_package_object s) away.0 ∙ (away.1).5)))
-      ]
-      loan_kept x w has false n lent = elim (from (Lent Borrowed x n) lent) [
-        | inl mine ↦ mine
-        | inr there ↦ absurd (let away = lent_handed table typed effects unmoved local state depth older between Borrowed x n there in
-            not_both (is_package_object s x) (ap (is_package_object s) away.0 ∙ (away.1).5) (only x w has))
-      ]
+      loan_kept x w has true n (h, lent, sight) = by_either (from (Lent Observed h n) lent)
+          (λ mine. (h, mine, sight))
+          (λ there. (absurd (let away = lent_handed table typed effects unmoved local state depth older between Observed h n there in
+          not_both (sees h) sight (plain h (ap (is_package_object s) away.0 ∙ (away.1).5)))))
+      loan_kept x w has false n lent = by_either (from (Lent Borrowed x n) lent)
+          (λ mine. (mine))
+          (λ there. (absurd (let away = lent_handed table typed effects unmoved local state depth older between Borrowed x n there in
+          not_both (is_package_object s x) (ap (is_package_object s) away.0 ∙ (away.1).5) (only x w has))))
 
   -- ---- where others aren't concerned
 

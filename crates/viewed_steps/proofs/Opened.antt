@@ -22,6 +22,7 @@ use Rattle.soundness.proofs.OwnedLoans.Clear.{refused}
 use Rattle.soundness.proofs.OwnedLoans.Allowed.{either_right, leads_overlaps, write_open, write_unlent}
 use Rattle.soundness.proofs.OwnedLoans.Safe.{Open, Unlent}
 use Rattle.viewed_steps.proofs.Constructors.{is_moved_fact}
+use Rattle.soundness.proofs.Parted.{by_either}
 
 -- ---- names
 
@@ -101,15 +102,12 @@ IsLess outs known f = Has known f ⊎ ((k : PlaceName) × Has outs k × (n : Pla
 pub open_before : (facts known : List Fact) (outs : List PlaceName) (k : Way) → ((f : Fact) → Has facts f → IsLess outs known f)
     → ((m : PlaceName) → Has outs m → overlaps m (name_of k) ≡ true → ⊥) → Open known k → Open facts k
 open_before facts known outs k less apart free = record {
-  moved = λ n has leads short. elim (less (Moved n) has) [
-    | inl there ↦ free.moved n there leads short
-    | inr (m, among, moved, is, covered) ↦
-        apart m among (covers_overlaps m n (name_of k) (subst (λ z. covers m z ≡ true) (sym (same_moved n moved is)) covered) leads)
-  ];
-  lent = λ h n has leads short. elim (less (Lent Borrowed h n) has) [
-    | inl there ↦ free.lent h n there leads short
-    | inr (m, among, moved, is, covered) ↦ (let no : Lent Borrowed h n ≡ Moved moved = is in absurd (false≢true (ap is_moved_fact no)))
-  ];
+  moved = λ n has leads short. by_either (less (Moved n) has)
+      (λ there. (free.moved n there leads short))
+      (λ (m, among, moved, is, covered). (apart m among (covers_overlaps m n (name_of k) (subst (λ z. covers m z ≡ true) (sym (same_moved n moved is)) covered) leads)));
+  lent = λ h n has leads short. by_either (less (Lent Borrowed h n) has)
+      (λ there. (free.lent h n there leads short))
+      (λ (m, among, moved, is, covered). (let no : Lent Borrowed h n ≡ Moved moved = is in absurd (false≢true (ap is_moved_fact no))));
 }
   where
     same_moved : (n m : PlaceName) → Moved n ≡ Moved m → n ≡ m

@@ -51,7 +51,7 @@ use Rattle.viewed_steps.proofs.Lending.{IsActualOf, actual_named}
 use Rattle.viewed_steps.proofs.Views.{AreLowFormals, AreAccess, not_elsewhere, given_type, given_formal, bundle_given}
 use Rattle.viewed_steps.proofs.Waited.{plain_unheld}
 use Rattle.viewed_steps.proofs.Constructors.{is_access_shape, is_cell_word, is_value_passed}
-use Rattle.soundness.proofs.Parted.{int_cell, position_cell, null_cell}
+use Rattle.soundness.proofs.Parted.{int_cell, position_cell, null_cell, by_either}
 
 abbrev pub no_views : Views
 no_views = record { way = λ x. None; loan = λ x. Lost 0; up = λ x. Lost 0; cell = λ x. 0; part_way = λ x p. None; part_cell = λ x p. 0 }
@@ -177,17 +177,15 @@ module _ (h : Here) (sees : ℕ → Bool) (seeing : Seeing h.typing sees) (settl
     t,
     record {
       way = λ y w has. (let found = are.way y w has in (found.0, inr found.1, found.2, found.3, inr found.4));
-      held = λ y n formal bare ws shown at. elim shown [
-        | inl here ↦ absurd (none (ap (is_given s) here.0 ∙ formal) (ap (is_bundle s) here.0 ∙ bare) ws n here.1 at)
-        | inr later ↦ are.held y n formal bare ws later at
-      ];
+      held = λ y n formal bare ws shown at. by_either shown
+          (λ here. (absurd (none (ap (is_given s) here.0 ∙ formal) (ap (is_bundle s) here.0 ∙ bare) ws n here.1 at)))
+          (λ later. (are.held y n formal bare ws later at));
       ups = are.ups;
       bare = are.bare;
       parts = λ y p w has. more_part x e formals rest y p w (t.part_cell y p) (are.parts y p w has);
-      part_held = λ y p k bundle ws shown there. elim shown [
-        | inl here ↦ absurd (single (ap (is_bundle s) here.0 ∙ bundle) ws here.1)
-        | inr later ↦ are.part_held y p k bundle ws later there
-      ];
+      part_held = λ y p k bundle ws shown there. by_either shown
+          (λ here. (absurd (single (ap (is_bundle s) here.0 ∙ bundle) ws here.1)))
+          (λ later. (are.part_held y p k bundle ws later there));
     },
   )
 
@@ -206,10 +204,9 @@ module _ (h : Here) (sees : ℕ → Bool) (seeing : Seeing h.typing sees) (settl
       ups = ups_of;
       bare = bare_of;
       parts = λ y p w has. more_part x e formals rest y p w (t.part_cell y p) (are.parts y p w has);
-      part_held = λ y p k bundle ws shown there. elim shown [
-        | inl here ↦ absurd (true_false (is_bundle s x) (ap (is_bundle s) here.0 ∙ bundle) single)
-        | inr later ↦ are.part_held y p k bundle ws later there
-      ];
+      part_held = λ y p k bundle ws shown there. by_either shown
+          (λ here. (absurd (true_false (is_bundle s x) (ap (is_bundle s) here.0 ∙ bundle) single)))
+          (λ later. (are.part_held y p k bundle ws later there));
     },
   )
     where
@@ -300,10 +297,9 @@ module _ (h : Here) (sees : ℕ → Bool) (seeing : Seeing h.typing sees) (settl
     },
     record {
       way = λ y w has. (let found = are.way y w has in (found.0, inr found.1, found.2, found.3, inr found.4));
-      held = λ y n formal single us shown at. elim shown [
-        | inl here ↦ absurd (true_false (is_bundle s x) bundle (ap (is_bundle s) here.0 ∙ single))
-        | inr later ↦ are.held y n formal single us later at
-      ];
+      held = λ y n formal single us shown at. by_either shown
+          (λ here. (absurd (true_false (is_bundle s x) bundle (ap (is_bundle s) here.0 ∙ single))))
+          (λ later. (are.held y n formal single us later at));
       ups = are.ups;
       bare = are.bare;
       parts = λ y p w has. parts_of y p w (y == x) refl has;
@@ -539,17 +535,16 @@ module _ (h : Here) (sees : ℕ → Bool) (seeing : Seeing h.typing sees) (settl
       held = λ y p d c b k bundle there is at. (
           let view = bundle_view h.typing y bundle in
           let up : Next y ≡ next = ap (λ b. if b then 0 else next) (local y view) in
-          elim (words (Next y) y view) [
-            | inl same ↦ absurd (above.1 (Next y) y (offset_in s.table (object_at s y).of p) k (omega (arith, up)) bundle (sym (same (offset_in s.table (object_at s y).of p)) ∙ at))
-            | inr (up_there, ws, shown, has) ↦ opened.part_held y p k bundle ws shown (record {
-              d = d;
-              c = c;
-              n = b;
-              there = there;
-              access = is;
-              word = sym (has (offset_in s.table (object_at s y).of p)) ∙ at;
-            })
-          ]);
+          by_either (words (Next y) y view)
+          (λ same. (absurd (above.1 (Next y) y (offset_in s.table (object_at s y).of p) k (omega (arith, up)) bundle (sym (same (offset_in s.table (object_at s y).of p)) ∙ at))))
+          (λ (up_there, ws, shown, has). (opened.part_held y p k bundle ws shown (record {
+            d = d;
+            c = c;
+            n = b;
+            there = there;
+            access = is;
+            word = sym (has (offset_in s.table (object_at s y).of p)) ∙ at;
+          }))));
       only = λ y p w has. (opened.parts y p w has).bundle;
       owners = λ y p w has. (let found = opened.parts y p w has in subst (IsOwners s) found.is (found.part).owners);
       looks = sight;
@@ -611,10 +606,7 @@ module _ (h : Here) (sees : ℕ → Bool) (seeing : Seeing h.typing sees) (settl
             }
 
         is_first : (a : TypedTree) → IsActualOf formals actuals f a → a ≡ Name c.name_pos c.root c.path c.of
-        is_first a of = elim (subst (λ z. z) (λ j. IsActualOf (formals_are j) (actuals_are j) f a) of) [
-          | inl first ↦ sym first.1
-          | inr later ↦ absurd (differ.0 f (actual_has rest c.others f a later) refl)
-        ]
+        is_first a of = by_either (subst (λ z. z) (λ j. IsActualOf (formals_are j) (actuals_are j) f a) of) (λ first. (sym first.1)) (λ later. (absurd (differ.0 f (actual_has rest c.others f a later) refl)))
 
         sees_so : (w : Way) → t.way f ≡ Some w → SeesFirst h.typing h.frame i n v (Some w)
         sees_so w has =

@@ -30,6 +30,7 @@ use Rattle.soundness.proofs.OwnedLoans.Meeting.{stands}
 use Rattle.machine.specs.place_names.declared.fact.Fact.{Fact}
 use Rattle.viewed_steps.proofs.Roots.{FromGiven}
 use Rattle.viewed_steps.specs.Seeing.{sees_in}
+use Rattle.soundness.proofs.Parted.{by_either}
 
 module _ (table : Table) (typed : TypedProgram) (effects : Effects)
     (unmoved : (e : Stage) → e.frame.sub ≡ 0 → (name : Name) → Has (facts_of (flow_program table typed) effects e) (Moved name) → ⊥)
@@ -110,17 +111,15 @@ module _ (table : Table) (typed : TypedProgram) (effects : Effects)
       → ((x : ℕ) (w z : Way) → views.way x ≡ Some w → IsOuter (home s depth) views x w → GoneElsewhere program effects older z → Under z w ⊎ Under w z → ⊥)
       → (name : Way) → Named (home s depth) name → sees (number_of name) ≡ false
       → ((y : ℕ) → base_of (expand views name) ≡ OfRoot (OfVariable (home s depth y) y) → IsSpared y ⊎ FromGiven (home s depth) sees views view facts are (expand views name)) → IsFree (expand views name)
-  free_name views view facts are past unmet name named plain spared = elim (stands (home s depth) sees views view facts are name (named, plain)) [
-    | inl own ↦ (
-        let base = named_base (home s depth) (expand views name) own.named in
-        elim (spared (number_of (expand views name)) base) [
-          | inl none ↦ inl (number_of (expand views name), base, none)
-          | inr (x, w, has, given, sight, under) ↦ inr (record { way = w; under = under; past = past x w has given sight; unmet = λ z gone meets. unmet x w z has (inr given) gone meets })
-        ])
-    | inr held ↦ inr (record {
-      way = held.way;
-      under = held.under;
-      past = past held.object held.way held.has held.passed.given held.plain;
-      unmet = λ z gone meets. unmet held.object held.way z held.has (inr held.passed.given) gone meets;
-    })
-  ]
+  free_name views view facts are past unmet name named plain spared = by_either (stands (home s depth) sees views view facts are name (named, plain))
+      (λ own. (
+      let base = named_base (home s depth) (expand views name) own.named in
+      by_either (spared (number_of (expand views name)) base)
+      (λ none. (inl (number_of (expand views name), base, none)))
+      (λ (x, w, has, given, sight, under). (inr (record { way = w; under = under; past = past x w has given sight; unmet = λ z gone meets. unmet x w z has (inr given) gone meets })))))
+      (λ held. (inr (record {
+        way = held.way;
+        under = held.under;
+        past = past held.object held.way held.has held.passed.given held.plain;
+        unmet = λ z gone meets. unmet held.object held.way z held.has (inr held.passed.given) gone meets;
+      })))

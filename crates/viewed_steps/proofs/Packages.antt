@@ -64,6 +64,7 @@ use Rattle.soundness.proofs.OwnedLoans.Alone.{viewed_alone, alone_viewed}
 use Rattle.viewed_steps.specs.Seeing.{sees_in}
 use Rattle.viewed_steps.proofs.Sees.{sees_seeing}
 use Rattle.viewed_steps.proofs.Constructors.{is_call_instruction, is_end_scope_instruction, is_finish_instruction}
+use Rattle.soundness.proofs.Parted.{by_either}
 
 frame_is : (g x y : ℕ) → OfVariable 0 x ≡ OfVariable g y → 0 ≡ g
 frame_is g x y same_there = cc
@@ -103,10 +104,9 @@ module _ (table : Table) (typed : TypedProgram) (effects : Effects) (input : Lis
       let placed = Has-map_from (λ (q : Placed). q.act) (path_point first_points n).acts a has in
       let stands = path_acts program effects ready.accepted.effects_are (sub_of program 0).points n placed.0 placed.1 in
       let declares = ready.elaborated.declared stands.0 stands.1 in
-      elim (Has-append_cases stands.0.acts (called_acts program effects stands.0.pos stands.0.instr) placed.0 stands.2) [
-        | inl mine ↦ ready.elaborated.unmoved stands.0 stands.1 placed.0 mine name (subst (λ z. Has (adds z) (Moved name)) (sym placed.2) moved)
-        | inr callee ↦ no_callees stands.0.pos stands.0.instr declares.0 declares.1 declares.2 placed.0 callee
-      ]
+      by_either (Has-append_cases stands.0.acts (called_acts program effects stands.0.pos stands.0.instr) placed.0 stands.2)
+      (λ mine. (ready.elaborated.unmoved stands.0 stands.1 placed.0 mine name (subst (λ z. Has (adds z) (Moved name)) (sym placed.2) moved)))
+      (λ callee. (no_callees stands.0.pos stands.0.instr declares.0 declares.1 declares.2 placed.0 callee))
 
   unmoved_along : (before : List ℕ) (name : PlaceName) → Has (facts_before first_points before) (Moved name) → ⊥
   unmoved_along [] name has = absurd has
@@ -408,10 +408,7 @@ module _ (table : Table) (typed : TypedProgram) (effects : Effects) (input : Lis
         where
           by_way : (y : ℕ) (o : Option Way) → turned_views.way y ≡ o → turned_views.way y ≡ None
           by_way y None is = is
-          by_way y (Some w) is = absurd (elim (turned.0 y w is) [
-            | inl same_there ↦ none_some w (sym (running.2 y) ∙ sym same_there.way ∙ is)
-            | inr (z, never, comes) ↦ never
-          ])
+          by_way y (Some w) is = absurd (by_either (turned.0 y w is) (λ same_there. (none_some w (sym (running.2 y) ∙ sym same_there.way ∙ is))) (λ (z, never, comes). (never)))
 
       moment_leads : (outcome : Outcome) → LeadsFirst outcome
           → Each (Declares first_turn running.1.0 (λ f y. f < 0) (lasting_of s p.scope) (lasting_of s (x ∷ p.scope)) scope) outcome
@@ -421,62 +418,58 @@ module _ (table : Table) (typed : TypedProgram) (effects : Effects) (input : Lis
       moment_leads (Goes after_step) (turned_views, turned, well) on nones =
           let none_now : HasNone turned_views = none_left turned_views turned in
           let facts_on_e : after (acts_first (Declare x v)) facts_first ≡ after (acts_first p.instr) facts_first = ap (λ i. after (acts_first i) facts_first) (sym e) in
-          elim (successor_cases first_turn 0) [
-            | inl found ↦ (
-                let q = standing.next_at table typed effects input ready state top [] [] named p frames of_sub at_point path found.0 found.2 in
-                let lead : Leads s (scope_behind p) (q.0).scope = q.2 in
-                standing.goes_to_next table typed effects input ready state top [] [] named p frames of_sub at_point path (calls_plain x v e) after_step [] top.frame.loops found.0 found.2 q.0 q.1
-                (on.frames ∙ ap (led first_turn (record top.frame { waits = [] })) found.1) deep tt turned_views
-                (running.0, (refl, running.1.1, running.1.2), none_now.0, deep, refl, none_now.1) (refl, refl)
-                (viewed_alone (home s 0) sees turned_views (view_here s after_step) (after (acts_first p.instr) facts_first) nowhere
-                (subst (Viewed (home s 0) sees nowhere turned_views (view_here s after_step)) facts_on_e well.viewed)) well.kept
-                (scope_on s ready.owns after_step.memory 0 (scope_behind p) (q.0).scope (subst (λ z. InScope s after_step.memory 0 (lasting_of s z)) (sym scope_first) on.inside) lead)
-                (record {
-                  held = λ y n lasts view bare at. well.holds.held y n view bare at;
-                  within = λ y n view bare at. (
-                      let own_way = well.holds.held y n view bare at in no_views turned_views none_now y own_way.0 own_way.1);
-                  only = λ y w has. no_views turned_views none_now y w has;
-                  lies = λ y w has. no_views turned_views none_now y w has;
-                  owners = λ y w has. no_views turned_views none_now y w has;
-                  passed = λ y w has. no_views turned_views none_now y w has;
-                  own = λ y w has. no_views turned_views none_now y w has;
-                  taken = λ y w has. no_views turned_views none_now y w has;
-                  parts = well.holds.parts;
-                  low = λ y q w has. no_parts turned_views none_now y q w has;
-                }) (
-                  (λ y w has. no_views turned_views none_now y w has),
-                  (
-                    (λ y w has. no_views turned_views none_now y w has),
-                    ((λ y w has. no_views turned_views none_now y w has), (λ y q w has. no_parts turned_views none_now y q w has)),
-                  ),
-                ) (
-                  nones,
-                  (
-                    none_given table typed (view_here s after_step) (record { stage = standing.at_next table typed effects input ready state top [] [] named p frames of_sub at_point path [] top.frame.loops found.0; views = turned_views; cells = [] })
-                        (empty_given table typed (record { stage = standing.at_next table typed effects input ready state top [] [] named p frames of_sub at_point path [] top.frame.loops found.0; views = turned_views; cells = [] }) refl),
-                    tt,
-                  ),
-                ) views
-                (steps_on (calls_plain x v e) (λ end. (let never : Declare x v ≡ Finish = sym e ∙ end in absurd (false≢true (ap is_finish_instruction never))))
-                (λ y end. (let never : Declare x v ≡ EndScope y = sym e ∙ end in absurd (false≢true (ap is_end_scope_instruction never)))) (refl, refl, refl) (λ y w has. no_views turned_views none_now y w has) refl))
-            | inr none ↦ (
-                let below : Stage = record { frame = record top.frame { waits = [] }; depth = 0; before = top.frame.next ∷ top.before; returns = [] } in
-                let main_frames : after_step.frames ≡ frame_at_start ready.main [] ∷ (record top.frame { waits = [] } ∷ []) =
-                on.frames ∙ ap (led first_turn (record top.frame { waits = [] })) none
-                ∙ ap (λ z. main_frame (record program { main = z }) ++ (record top.frame { waits = [] } ∷ [])) ready.is_main in
-                let same_facts : after (acts_first p.instr) facts_first ≡ facts_of program effects below =
-                sym (standing.facts_on table typed effects input ready state top [] [] named p frames of_sub at_point path (calls_plain x v e))
-                ∙ ap (λ (z : FlowSub). facts_before (path_points program effects z) (top.frame.next ∷ top.before)) (sym (standing.sub_is table typed effects input ready state top [] [] named p frames of_sub at_point)) in (
-                  main_begun (record { stage = below; views = turned_views; cells = [] }) (running.0, (refl, running.1.1, refl), none_now.0, refl, refl, none_now.1) refl after_step turned_views none_now main_frames (after (acts_first (Declare x v)) facts_first)
-                      (viewed_alone (home s 0) sees turned_views (view_here s after_step) (after (acts_first (Declare x v)) facts_first) nowhere well.viewed)
-                      (λ name has. unmoved_stage below running.0 name (subst (λ z. Has z (Moved name)) (facts_on_e ∙ same_facts) has)) well.kept
-                      (λ f y q n held. elim (on.inside f y q n held) [
-                        | inl less ↦ absurd (omega (arith, less))
-                        | inr mine ↦ (let same_frame = mine.0 in omega (arith, same_frame))
-                      ]) nones,
-                  begins_main (record { stage = below; views = turned_views; cells = [] }) refl refl (refl, sym deep, refl) refl,
-                ))
-          ]
+          by_either (successor_cases first_turn 0)
+          (λ found. (
+          let q = standing.next_at table typed effects input ready state top [] [] named p frames of_sub at_point path found.0 found.2 in
+          let lead : Leads s (scope_behind p) (q.0).scope = q.2 in
+          standing.goes_to_next table typed effects input ready state top [] [] named p frames of_sub at_point path (calls_plain x v e) after_step [] top.frame.loops found.0 found.2 q.0 q.1
+          (on.frames ∙ ap (led first_turn (record top.frame { waits = [] })) found.1) deep tt turned_views
+          (running.0, (refl, running.1.1, running.1.2), none_now.0, deep, refl, none_now.1) (refl, refl)
+          (viewed_alone (home s 0) sees turned_views (view_here s after_step) (after (acts_first p.instr) facts_first) nowhere
+          (subst (Viewed (home s 0) sees nowhere turned_views (view_here s after_step)) facts_on_e well.viewed)) well.kept
+          (scope_on s ready.owns after_step.memory 0 (scope_behind p) (q.0).scope (subst (λ z. InScope s after_step.memory 0 (lasting_of s z)) (sym scope_first) on.inside) lead)
+          (record {
+            held = λ y n lasts view bare at. well.holds.held y n view bare at;
+            within = λ y n view bare at. (
+                let own_way = well.holds.held y n view bare at in no_views turned_views none_now y own_way.0 own_way.1);
+            only = λ y w has. no_views turned_views none_now y w has;
+            lies = λ y w has. no_views turned_views none_now y w has;
+            owners = λ y w has. no_views turned_views none_now y w has;
+            passed = λ y w has. no_views turned_views none_now y w has;
+            own = λ y w has. no_views turned_views none_now y w has;
+            taken = λ y w has. no_views turned_views none_now y w has;
+            parts = well.holds.parts;
+            low = λ y q w has. no_parts turned_views none_now y q w has;
+          }) (
+            (λ y w has. no_views turned_views none_now y w has),
+            (
+              (λ y w has. no_views turned_views none_now y w has),
+              ((λ y w has. no_views turned_views none_now y w has), (λ y q w has. no_parts turned_views none_now y q w has)),
+            ),
+          ) (
+            nones,
+            (
+              none_given table typed (view_here s after_step) (record { stage = standing.at_next table typed effects input ready state top [] [] named p frames of_sub at_point path [] top.frame.loops found.0; views = turned_views; cells = [] })
+                  (empty_given table typed (record { stage = standing.at_next table typed effects input ready state top [] [] named p frames of_sub at_point path [] top.frame.loops found.0; views = turned_views; cells = [] }) refl),
+              tt,
+            ),
+          ) views
+          (steps_on (calls_plain x v e) (λ end. (let never : Declare x v ≡ Finish = sym e ∙ end in absurd (false≢true (ap is_finish_instruction never))))
+          (λ y end. (let never : Declare x v ≡ EndScope y = sym e ∙ end in absurd (false≢true (ap is_end_scope_instruction never)))) (refl, refl, refl) (λ y w has. no_views turned_views none_now y w has) refl)))
+          (λ none. (
+          let below : Stage = record { frame = record top.frame { waits = [] }; depth = 0; before = top.frame.next ∷ top.before; returns = [] } in
+          let main_frames : after_step.frames ≡ frame_at_start ready.main [] ∷ (record top.frame { waits = [] } ∷ []) =
+          on.frames ∙ ap (led first_turn (record top.frame { waits = [] })) none
+          ∙ ap (λ z. main_frame (record program { main = z }) ++ (record top.frame { waits = [] } ∷ [])) ready.is_main in
+          let same_facts : after (acts_first p.instr) facts_first ≡ facts_of program effects below =
+          sym (standing.facts_on table typed effects input ready state top [] [] named p frames of_sub at_point path (calls_plain x v e))
+          ∙ ap (λ (z : FlowSub). facts_before (path_points program effects z) (top.frame.next ∷ top.before)) (sym (standing.sub_is table typed effects input ready state top [] [] named p frames of_sub at_point)) in (
+            main_begun (record { stage = below; views = turned_views; cells = [] }) (running.0, (refl, running.1.1, refl), none_now.0, refl, refl, none_now.1) refl after_step turned_views none_now main_frames (after (acts_first (Declare x v)) facts_first)
+                (viewed_alone (home s 0) sees turned_views (view_here s after_step) (after (acts_first (Declare x v)) facts_first) nowhere well.viewed)
+                (λ name has. unmoved_stage below running.0 name (subst (λ z. Has z (Moved name)) (facts_on_e ∙ same_facts) has)) well.kept
+                (λ f y q n held. by_either (on.inside f y q n held) (λ less. (absurd (omega (arith, less)))) (λ mine. (let same_frame = mine.0 in omega (arith, same_frame)))) nones,
+            begins_main (record { stage = below; views = turned_views; cells = [] }) refl refl (refl, sym deep, refl) refl,
+          )))
 
       have_none_on : Each (λ (st : State). NoneAbove s 0 st.memory) (turn first_turn (Declare x v))
       have_none_on = each_on (turn first_turn (Declare x v))

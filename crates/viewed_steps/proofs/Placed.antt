@@ -34,7 +34,7 @@ use Rattle.viewed_steps.specs.Sound.{Lasts, Lies, ArePartsLow, ArePlaced, ArePla
 use Rattle.viewed_steps.proofs.Views.{base_named, same_named, same_lies, anonymous_view, view_ends}
 use Rattle.soundness.proofs.OwnedWays.Dropped.{named_base}
 use Rattle.soundness.proofs.OwnedLoans.Ended.{number_base}
-use Rattle.soundness.proofs.Parted.{empty_held}
+use Rattle.soundness.proofs.Parted.{empty_held, by_either}
 
 either : (a b : Bool) → a || b ≡ true → (a ≡ true) ⊎ (b ≡ true)
 either true b e = inl refl
@@ -175,55 +175,51 @@ module _ (t : Turn) (sees : ℕ → Bool) (seeing : Seeing (typing t) sees) (set
   -- their ways lie as before
   pub turned_lies : (views : Views) (facts : List Fact) → Turned t sees seeing settled own_law other alone v parts_named may frames none views facts
       → (x : ℕ) (w : Way) → views.way x ≡ Some w → Lies (typing t) (length t.outer) w
-  turned_lies views facts turned x w has = elim (turned.0 x w has) [
-    | inl same ↦ lies.0 x w (sym same.way ∙ has)
-    | inr (y, from, comes) ↦ elim comes.root [
-      | inl is ↦ inl (base_named Home w y is.0)
-      | inr (inl (k, has_y, is)) ↦ same_lies (typing t) (length t.outer) w k is (lies.0 y k has_y)
-      | inr (inr (p, k, has_y, is)) ↦ same_lies (typing t) (length t.outer) w k is (lies.1 y p k has_y).0
-    ]
-  ]
+  turned_lies views facts turned x w has = by_either (turned.0 x w has)
+      (λ same. (lies.0 x w (sym same.way ∙ has)))
+      (λ (y, from, comes). (elim comes.root [
+        | inl is ↦ inl (base_named Home w y is.0)
+        | inr (inl (k, has_y, is)) ↦ same_lies (typing t) (length t.outer) w k is (lies.0 y k has_y)
+        | inr (inr (p, k, has_y, is)) ↦ same_lies (typing t) (length t.outer) w k is (lies.1 y p k has_y).0
+      ]))
 
   -- views that turned as they may are placed after the instruction
   pub turned_placed : (views : Views) (facts facts' : List Fact) → ((h : ℕ) (n : PlaceName) → Has facts (Lent Observed h n) → Has facts' (Lent Observed h n))
       → ArePlacedWith t.program sees (length t.outer) facts v a → Turned t sees seeing settled own_law other alone v parts_named may frames none views facts'
       → ArePlacedWith t.program sees (length t.outer) facts' views b
-  turned_placed views facts facts' lent placed turned x w has = elim (turned.0 x w has) [
-    | inl same ↦ (
-        let old = placed x w (sym same.way ∙ has) in
-        record {
-          within = more x old.within;
-          plain = old.plain;
-          up = λ named. subst (λ z. Lasts t.program b (number_of z) x) (sym same.up)
-              (lasts_more t.program a b (number_of (v.up x)) x more (old.up (subst (Named Home) same.up named)));
-          root = λ named. lasts_more t.program a b (number_of w) x more (old.root named);
-          holder = λ named sight. (let h = old.holder (subst (Named Home) same.up named) sight in
-              (h.0, subst (λ z. Has facts' (Lent Observed h.0 (name_of z))) (sym same.loan) (lent h.0 (name_of (v.loan x)) h.1), lasts_more t.program a b h.0 x more h.2, h.3));
-        })
-    | inr (y, from, comes) ↦ record {
-      within = from.within;
-      plain = from.plain;
-      up = λ named. elim (comes.up named) [
-        | inl is ↦ subst (λ z. Lasts t.program b z x) (sym is) from.lasts
-        | inr (k, has_y, is, back) ↦ subst (λ z. Lasts t.program b z x) (sym is) (through y k has_y from (number_of (v.up y)) ((placed y k has_y).up (back named)))
-      ];
-      root = λ named. elim comes.root [
-        | inl is ↦ subst (λ z. Lasts t.program b z x) (sym (number_base w (Home y) y is.0)) from.lasts
-        | inr (inr (p, k, has_y, is)) ↦ (
-            let named_k : Named Home k = same_named Home k w (sym is) named in
-            inl (ap (is_package_object (typing t)) (same_number w k named_k is) ∙ (lies.1 y p k has_y).1 named_k))
-        | inr (inl (k, has_y, is)) ↦ (
-            let named_k : Named Home k = same_named Home k w (sym is) named in
-            subst (λ z. Lasts t.program b z x) (sym (same_number w k named_k is)) (through y k has_y from (number_of k) ((placed y k has_y).root named_k)))
-      ];
-      holder = λ named sight. elim (comes.loan named sight) [
-        | inl own ↦ (x, own, inr (from.within, view_ends (typing t) x (anonymous_view (typing t) x from.view), itself (scope_of (typing t) x), from.plain), sight)
-        | inr (k, has_y, sees_y, is, back) ↦ (
+  turned_placed views facts facts' lent placed turned x w has = by_either (turned.0 x w has)
+      (λ same. (
+      let old = placed x w (sym same.way ∙ has) in
+      record {
+        within = more x old.within;
+        plain = old.plain;
+        up = λ named. subst (λ z. Lasts t.program b (number_of z) x) (sym same.up)
+            (lasts_more t.program a b (number_of (v.up x)) x more (old.up (subst (Named Home) same.up named)));
+        root = λ named. lasts_more t.program a b (number_of w) x more (old.root named);
+        holder = λ named sight. (let h = old.holder (subst (Named Home) same.up named) sight in
+            (h.0, subst (λ z. Has facts' (Lent Observed h.0 (name_of z))) (sym same.loan) (lent h.0 (name_of (v.loan x)) h.1), lasts_more t.program a b h.0 x more h.2, h.3));
+      }))
+      (λ (y, from, comes). (record {
+        within = from.within;
+        plain = from.plain;
+        up = λ named. by_either (comes.up named)
+            (λ is. (subst (λ z. Lasts t.program b z x) (sym is) from.lasts))
+            (λ (k, has_y, is, back). (subst (λ z. Lasts t.program b z x) (sym is) (through y k has_y from (number_of (v.up y)) ((placed y k has_y).up (back named)))));
+        root = λ named. elim comes.root [
+          | inl is ↦ subst (λ z. Lasts t.program b z x) (sym (number_base w (Home y) y is.0)) from.lasts
+          | inr (inr (p, k, has_y, is)) ↦ (
+              let named_k : Named Home k = same_named Home k w (sym is) named in
+              inl (ap (is_package_object (typing t)) (same_number w k named_k is) ∙ (lies.1 y p k has_y).1 named_k))
+          | inr (inl (k, has_y, is)) ↦ (
+              let named_k : Named Home k = same_named Home k w (sym is) named in
+              subst (λ z. Lasts t.program b z x) (sym (same_number w k named_k is)) (through y k has_y from (number_of k) ((placed y k has_y).root named_k)))
+        ];
+        holder = λ named sight. by_either (comes.loan named sight)
+            (λ own. (x, own, inr (from.within, view_ends (typing t) x (anonymous_view (typing t) x from.view), itself (scope_of (typing t) x), from.plain), sight))
+            (λ (k, has_y, sees_y, is, back). (
             let h = (placed y k has_y).holder (back named) sees_y in
-            (h.0, subst (λ z. Has facts' (Lent Observed h.0 (name_of z))) (sym is) (lent h.0 (name_of (v.loan y)) h.1), through y k has_y from h.0 h.2, h.3))
-      ];
-    }
-  ]
+            (h.0, subst (λ z. Has facts' (Lent Observed h.0 (name_of z))) (sym is) (lent h.0 (name_of (v.loan y)) h.1), through y k has_y from h.0 h.2, h.3)));
+      }))
     where
       through : (y : ℕ) (k : Way) → v.way y ≡ Some k → may x y → (r : ℕ) → Lasts t.program a r y → Lasts t.program b r x
       through y k has_y from r lasts =

@@ -65,7 +65,7 @@ use Rattle.soundness.proofs.ViewedSoundness.Stored.{holds_stored, no_view_place}
 use Rattle.soundness.proofs.ViewedSoundness.Outcomes.{IsGood, Leads_on, raises, unturned, goes_to, goes_on, live}
 use Rattle.viewed_steps.proofs.Views.{AreAccess}
 use Rattle.viewed_steps.proofs.Constructors.{is_cell_word, is_empty_word}
-use Rattle.soundness.proofs.Parted.{not_empty}
+use Rattle.soundness.proofs.Parted.{not_empty, by_either}
 
 -- ---- facts at a release
 
@@ -239,10 +239,9 @@ module _ (t : Turn) (sees : ℕ → Bool) (seeing : Seeing (typing t) sees) (set
         let word : seen_here.word l ≡ owner_word slot =
         word_yes s.table (content s m hands (trunk l)) (steps_in l) (alive_trunk w l rooted reaches) (leaf_at k l spot of)
         ∙ ap owner_word (slot_is s settled hands t.state.leaks m [] excused good.kept good.viewed.owned good.viewed.known alive_trunk k l spot) in
-        word ∙ elim (bool_cases slot.gone) [
-          | inr whole ↦ plain_word slot.word slot.gone no_cell whole
-          | inl gone ↦ absurd (clean (good.viewed.known w l (owners_rooted s w rooted) reaches (word ∙ ap (owner_at slot.word) gone)))
-        ]
+        word ∙ by_either (bool_cases slot.gone)
+        (λ gone. (absurd (clean (good.viewed.known w l (owners_rooted s w rooted) reaches (word ∙ ap (owner_at slot.word) gone)))))
+        (λ whole. (plain_word slot.word slot.gone no_cell whole))
 
     spot_freed : (n : ℕ) (k : Place) (l : Loc) → Spot s m hands k l → (trunk l ≡ OfCell n → ⊥) → Spot s (freed n m) hands k l
     spot_freed n k l spot off =

@@ -43,50 +43,45 @@ use Rattle.soundness.proofs.ViewedSoundness.Coming.{IsComing, goes_further}
 use Rattle.viewed_steps.specs.Traversals.{AreRooted}
 use Rattle.viewed_steps.proofs.Rooted.{goes_on_from}
 use Rattle.viewed_steps.proofs.Sources.{view_shape, view_scalar}
+use Rattle.soundness.proofs.Parted.{by_either}
 
 -- ---- ways are equal or not, and begin each other or not
 
 same_ways : (a b : Way) → (a ≡ b) ⊎ (a ≡ b → ⊥)
-same_ways (ways.Object r) (ways.Object q) = elim (same_loc (OfRoot r) (OfRoot q)) [
-  | inl e ↦ inl (let is : r ≡ q = cc in ap ways.Object is)
-  | inr differs ↦ inr (λ e. differs (let is : r ≡ q = cc in ap OfRoot is))
-]
+same_ways (ways.Object r) (ways.Object q) = by_either (same_loc (OfRoot r) (OfRoot q))
+    (λ e. (inl (let is : r ≡ q = cc in ap ways.Object is)))
+    (λ differs. (inr (λ e. differs (let is : r ≡ q = cc in ap OfRoot is))))
 same_ways (ways.Object r) (ways.Lost n) = inr (λ e. cc)
 same_ways (ways.Object r) (ways.Into w i) = inr (λ e. cc)
 same_ways (ways.Object r) (All w) = inr (λ e. cc)
 same_ways (ways.Lost n) (ways.Object q) = inr (λ e. cc)
-same_ways (ways.Lost n) (ways.Lost k) = elim (same_loc (OfCell n) (OfCell k)) [
-  | inl e ↦ inl (let is : n ≡ k = cc in ap ways.Lost is)
-  | inr differs ↦ inr (λ e. differs (let is : n ≡ k = cc in ap OfCell is))
-]
+same_ways (ways.Lost n) (ways.Lost k) = by_either (same_loc (OfCell n) (OfCell k))
+    (λ e. (inl (let is : n ≡ k = cc in ap ways.Lost is)))
+    (λ differs. (inr (λ e. differs (let is : n ≡ k = cc in ap OfCell is))))
 same_ways (ways.Lost n) (ways.Into w i) = inr (λ e. cc)
 same_ways (ways.Lost n) (All w) = inr (λ e. cc)
 same_ways (ways.Into w i) (ways.Object q) = inr (λ e. cc)
 same_ways (ways.Into w i) (ways.Lost n) = inr (λ e. cc)
-same_ways (ways.Into w i) (ways.Into u j) = elim (same_ways w u) [
-  | inr differs ↦ inr (λ e. differs cc)
-  | inl same ↦ elim (same_loc (Inside (OfCell 0) i) (Inside (OfCell 0) j)) [
-    | inl e ↦ inl (let is : i ≡ j = cc in (λ k. ways.Into (same k) (is k)))
-    | inr differs ↦ inr (λ e. differs (let is : i ≡ j = cc in ap (Inside (OfCell 0)) is))
-  ]
-]
+same_ways (ways.Into w i) (ways.Into u j) = by_either (same_ways w u)
+    (λ same. (by_either (same_loc (Inside (OfCell 0) i) (Inside (OfCell 0) j))
+    (λ e. (inl (let is : i ≡ j = cc in (λ k. ways.Into (same k) (is k)))))
+    (λ differs. (inr (λ e. differs (let is : i ≡ j = cc in ap (Inside (OfCell 0)) is))))))
+    (λ differs. (inr (λ e. differs cc)))
 same_ways (ways.Into w i) (All u) = inr (λ e. cc)
 same_ways (All w) (ways.Object q) = inr (λ e. cc)
 same_ways (All w) (ways.Lost n) = inr (λ e. cc)
 same_ways (All w) (ways.Into u j) = inr (λ e. cc)
-same_ways (All w) (All u) = elim (same_ways w u) [ inl e ↦ inl (ap All e) | inr differs ↦ inr (λ e. differs cc) ]
+same_ways (All w) (All u) = by_either (same_ways w u) (λ e. (inl (ap All e))) (λ differs. (inr (λ e. differs cc)))
 
 under_or : (a w : Way) → Under a w ⊎ (Under a w → ⊥)
 under_or a (ways.Object x) = same_ways a (ways.Object x)
 under_or a (ways.Lost n) = same_ways a (ways.Lost n)
-under_or a (ways.Into w i) = elim (same_ways a (ways.Into w i)) [
-  | inl e ↦ inl (inl e)
-  | inr differs ↦ elim (under_or a w) [ inl u ↦ inl (inr u) | inr none ↦ inr (λ u. elim u [ inl e ↦ differs e | inr u ↦ none u ]) ]
-]
-under_or a (All w) = elim (same_ways a (All w)) [
-  | inl e ↦ inl (inl e)
-  | inr differs ↦ elim (under_or a w) [ inl u ↦ inl (inr u) | inr none ↦ inr (λ u. elim u [ inl e ↦ differs e | inr u ↦ none u ]) ]
-]
+under_or a (ways.Into w i) = by_either (same_ways a (ways.Into w i))
+    (λ e. (inl (inl e)))
+    (λ differs. (by_either (under_or a w) (λ u. (inl (inr u))) (λ none. (inr (λ u. by_either u (λ e. (differs e)) (λ u. (none u)))))))
+under_or a (All w) = by_either (same_ways a (All w))
+    (λ e. (inl (inl e)))
+    (λ differs. (by_either (under_or a w) (λ u. (inl (inr u))) (λ none. (inr (λ u. by_either u (λ e. (differs e)) (λ u. (none u)))))))
 
 some_is : (k q : Way) → Some k ≡ Some q → k ≡ q
 some_is k q e = cc
@@ -106,14 +101,8 @@ certain (Some k) w sure = elim (under_or k w) [
 pub under_on : (a w : Way) → Under a w → (r : List Go) × (w ≡ on a r)
 under_on a (ways.Object x) u = ([], sym u)
 under_on a (ways.Lost n) u = ([], sym u)
-under_on a (ways.Into w i) u = elim u [
-  | inl e ↦ ([], sym e)
-  | inr u ↦ (let more = under_on a w u in (Part i ∷ more.0, ap (λ z. ways.Into z i) more.1))
-]
-under_on a (All w) u = elim u [
-  | inl e ↦ ([], sym e)
-  | inr u ↦ (let more = under_on a w u in (Down ∷ more.0, ap All more.1))
-]
+under_on a (ways.Into w i) u = by_either u (λ e. ([], sym e)) (λ u. (let more = under_on a w u in (Part i ∷ more.0, ap (λ z. ways.Into z i) more.1)))
+under_on a (All w) u = by_either u (λ e. ([], sym e)) (λ u. (let more = under_on a w u in (Down ∷ more.0, ap All more.1)))
 
 module _ (t : Turn) (sees : ℕ → Bool) (seeing : Seeing (typing t) sees) (settled : IsSettled (typing t).table) (own_law : OwnsByShape (typing t).table) (other : Around (home (typing t) (length t.outer)))
     (alone : (w : Way) → IsNear (length t.outer) w → other.gone w → ⊥)

@@ -14,6 +14,7 @@ use Rattle.soundness.specs.Seen.{is_view_formal}
 use Rattle.soundness.proofs.Contents.{bool_cases}
 use Rattle.soundness.specs.ViewedSoundness.Holds.{is_view, is_bundle, GoesBy}
 use Rattle.viewed_steps.specs.Traversals.{IsSourceIn, IsRootedIn, AreRooted}
+use Rattle.soundness.proofs.Parted.{by_either}
 
 -- what is no view holds no loans
 no_loans : (v b o f : Bool) → (b || o) || f ≡ false → not ((v && b) || (v && o)) ≡ true
@@ -91,23 +92,18 @@ module _ (s : Typing) (acts : List Act) (f : ℕ) (first : Option Way) where
       pub rooted_on : ((x : ℕ) (w : Way) → later.way x ≡ Some w → (before.way x ≡ Some w)
           ⊎ ((y : ℕ) × IsSourceIn acts x y × (is_bundle s y ≡ false → is_view s y ≡ true → (k : Way) × (before.way y ≡ Some k) × Under k w)))
           → AreRooted s acts f first before → AreRooted s acts f first later
-      rooted_on turned rooted x w has = elim (turned x w has) [
-        | inl same ↦ rooted x w same
-        | inr (y, source, under) ↦ by_source x y w source under rooted
-      ]
+      rooted_on turned rooted x w has = by_either (turned x w has) (λ same. (rooted x w same)) (λ (y, source, under). (by_source x y w source under rooted))
 
     -- What has the first formal for its one root goes on from what that sees.
     pub goes_on_from : (v : Views) → AreRooted s acts f first v → (y : ℕ) → IsOnlyRoot s acts y f → (k : Way) → GoesBy s v y k
         → (w : Way) × (first ≡ Some w) × Under w (expand v k)
-    goes_on_from v rooted y only k goes = elim (bool_cases (is_view s y)) [
-      | inr plain ↦ absurd (plain_apart y plain (only.1 y (own_root y plain)))
-      | inl is ↦ elim (bool_cases (is_bundle s y)) [
-        | inl bundle ↦ absurd (bundle_apart y bundle (only.1 y (bundle_root y bundle)))
-        | inr bare ↦ (
-            let l = goes.0 bare is in
-            let old = rooted l.0.object l.0.way l.0.has in
-            let same : old.0 ≡ f = only.1 old.0 (subst (λ z. Roots s acts z old.0) l.1 old.1) in
-            let it = old.2 same in
-            (it.0, it.1, under_on it.0 l.0.way (expand v k) it.2 (subst (Under l.0.way) (sym (lifted_way v k l.0)) (on_under l.0.way l.0.rest))))
-      ]
-    ]
+    goes_on_from v rooted y only k goes = by_either (bool_cases (is_view s y))
+        (λ is. (by_either (bool_cases (is_bundle s y))
+        (λ bundle. (absurd (bundle_apart y bundle (only.1 y (bundle_root y bundle)))))
+        (λ bare. (
+        let l = goes.0 bare is in
+        let old = rooted l.0.object l.0.way l.0.has in
+        let same : old.0 ≡ f = only.1 old.0 (subst (λ z. Roots s acts z old.0) l.1 old.1) in
+        let it = old.2 same in
+        (it.0, it.1, under_on it.0 l.0.way (expand v k) it.2 (subst (Under l.0.way) (sym (lifted_way v k l.0)) (on_under l.0.way l.0.rest)))))))
+        (λ plain. (absurd (plain_apart y plain (only.1 y (own_root y plain)))))

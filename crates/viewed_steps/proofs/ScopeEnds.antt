@@ -64,6 +64,7 @@ use Rattle.viewed_steps.specs.Seeing.{sees_in}
 use Rattle.viewed_steps.proofs.Sees.{sees_seeing}
 use Rattle.viewed_steps.proofs.Constructors.{is_call_instruction}
 use Rattle.viewed_steps.proofs.InnerFrame.{InnerFrame}
+use Rattle.soundness.proofs.Parted.{by_either}
 
 only_first : (k : ℕ) → k < 1 → k ≡ 0
 only_first zero less = refl
@@ -300,20 +301,19 @@ module _ (table : Table) (typed : TypedProgram) (effects : Effects) (input : Lis
           record { stage = standing.at_next table typed effects input ready inner.state inner.top older outer inner.named inner.p inner.frames inner.of_sub inner.at_point inner.path waits loops next_point.0; views = left_views; cells = [] } in (
             (
               none_given table typed (view_here s after_step) there (named_given table typed there (scope_behind inner.p) are (innermost.named_behind table typed effects input ready inner no_call_here)),
-              elim (inner.above.1).0.1 [
-                | inl none ↦ inl none
-                | inr (some, returned, none_back, was) ↦ inr (
-                  some,
-                  or_right (returns_value (get_or (sub_of program inner.top.frame.sub).points inner.top.frame.next no_point).instr) (has_returned (sub_of program inner.top.frame.sub) inner.top.before) returned,
-                  none_back,
-                  λ other_named other_of q at_q.
-                      given_still s depth inner.below.stage.depth below_less (omega arith) inner.below.views low_views low_parts q.instr (view_here s inner.state) (view_here s after_step) inner.below.stage.frame.waits
-                      (λ w low k reach. reaches_low depth (view_here s inner.state) (view_here s after_step)
-                      (λ l is_low. undeclared_words s depth y inner.state.memory (waiting_in inner.state) (waiting_in after_step) inner.state.leaks after_step.leaks l is_low
-                      ∙ ap (λ z. (seen s z (waiting_in after_step) after_step.leaks).word l) (sym memory)) w low.0 low.1 low.2 low.3 (ways.OfCell k) reach)
-                      (was other_named other_of q at_q),
-                )
-              ],
+              by_either (inner.above.1).0.1
+                  (λ none. (inl none))
+                  (λ (some, returned, none_back, was). (inr (
+                    some,
+                    or_right (returns_value (get_or (sub_of program inner.top.frame.sub).points inner.top.frame.next no_point).instr) (has_returned (sub_of program inner.top.frame.sub) inner.top.before) returned,
+                    none_back,
+                    λ other_named other_of q at_q.
+                        given_still s depth inner.below.stage.depth below_less (omega arith) inner.below.views low_views low_parts q.instr (view_here s inner.state) (view_here s after_step) inner.below.stage.frame.waits
+                        (λ w low k reach. reaches_low depth (view_here s inner.state) (view_here s after_step)
+                        (λ l is_low. undeclared_words s depth y inner.state.memory (waiting_in inner.state) (waiting_in after_step) inner.state.leaks after_step.leaks l is_low
+                        ∙ ap (λ z. (seen s z (waiting_in after_step) after_step.leaks).word l) (sym memory)) w low.0 low.1 low.2 low.3 (ways.OfCell k) reach)
+                        (was other_named other_of q at_q),
+                  ))),
               (inner.above.1).0.2,
             ),
             (

@@ -44,7 +44,7 @@ use Rattle.soundness.proofs.Passing.{plain_type}
 use Rattle.soundness.proofs.ViewedSoundness.Lends.{matches_on}
 use Rattle.viewed_steps.proofs.Entered.{IsTyped, IsFit}
 use Rattle.viewed_steps.proofs.Views.{AreLowFormals, bundle_owns}
-use Rattle.soundness.proofs.Parted.{null_cell}
+use Rattle.soundness.proofs.Parted.{null_cell, by_either}
 
 -- Nothing of a name was moved or is borrowed, unless it is looked at through an observer or a formal.
 abbrev pub IsClear : Typing → (ℕ → Bool) → List Fact → TypedTree → Type 0
@@ -153,14 +153,13 @@ module _ (h : Here) (sees : ℕ → Bool) (seeing : Seeing h.typing sees) (settl
           goes = goes_there;
           owners = part_owners s sees h.frame v m (All w) holds l;
           reaches = reaches;
-          low = elim far [
-            | inl at_home ↦ inl (subst (Named Home) (sym (in_part_way v (All w) l)) (named_on Home l.way l.rest at_home))
-            | inr (foreign, less, some) ↦ inr (
-              (foreign.0, foreign.1, ap base_of (in_part_way v (All w) l) ∙ base_on l.way l.rest ∙ foreign.2, foreign.3),
-              (omega (arith, less)),
-              some,
-            )
-          ];
+          low = by_either far
+              (λ at_home. (inl (subst (Named Home) (sym (in_part_way v (All w) l)) (named_on Home l.way l.rest at_home))))
+              (λ (foreign, less, some). (inr (
+                (foreign.0, foreign.1, ap base_of (in_part_way v (All w) l) ∙ base_on l.way l.rest ∙ foreign.2, foreign.3),
+                (omega (arith, less)),
+                some,
+              )));
           whole = part_whole s sees h.frame other v (seen s m hands leaks) facts well alone (All w) l;
         }
 

@@ -16,6 +16,7 @@ use Rattle.soundness.specs.ViewedSoundness.Holds.{is_given, sees_only, Seeing}
 use Rattle.soundness.proofs.ViewedSoundness.ViewKinds.{only_seeing}
 use Rattle.viewed_steps.proofs.Views.{given_formal}
 use Rattle.viewed_steps.specs.Seeing.{borrows_from, sees_within, program_acts, sees_in}
+use Rattle.soundness.proofs.Parted.{by_either}
 
 or_left : (a b : Bool) → a ≡ true → a || b ≡ true
 or_left a b e = ap (λ z. z || b) e
@@ -90,15 +91,14 @@ module _ (s : Typing) (acts : List Act) where
   -- what sees does so by itself, or is a borrower
   pub kind_within : (steps x : ℕ) → sees_within steps s acts x ≡ true → (sees_only s x ≡ true) ⊎ (is_borrower s x ≡ true)
   kind_within zero x is = inl (zero_within x is)
-  kind_within (suc steps) x is = elim (from_within steps x is) [ inl only ↦ inl only | inr (borrows, m, has, from) ↦ inr borrows ]
+  kind_within (suc steps) x is = by_either (from_within steps x is) (λ only. (inl only)) (λ (borrows, m, has, from). (inr borrows))
 
   source_within : (steps x : ℕ) → sees_within steps s acts x ≡ true → sees_only s x ≡ false
       → (less : ℕ) × (m : Name) × Has acts (Borrow x m) × (sees_within less s acts m.root ≡ true)
   source_within zero x is plain = absurd (let no : false ≡ true = sym plain ∙ zero_within x is in false≢true no)
-  source_within (suc steps) x is plain = elim (from_within steps x is) [
-    | inl only ↦ absurd (let no : false ≡ true = sym plain ∙ only in false≢true no)
-    | inr (borrows, m, has, from) ↦ (steps, m, has, from)
-  ]
+  source_within (suc steps) x is plain = by_either (from_within steps x is)
+      (λ only. (absurd (let no : false ≡ true = sym plain ∙ only in false≢true no)))
+      (λ (borrows, m, has, from). (steps, m, has, from))
 
   -- where borrowers have greater numbers than what they are declared from, so many steps are enough
   module _ (less : (x : ℕ) (m : Name) → Has acts (Borrow x m) → m.root < x) where
@@ -110,10 +110,9 @@ module _ (s : Typing) (acts : List Act) where
 
     pub within_enough : (steps more x : ℕ) → x ≤ more → sees_within steps s acts x ≡ true → sees_within more s acts x ≡ true
     within_enough zero more x long is = only_within more x (zero_within x is)
-    within_enough (suc steps) more x long is = elim (from_within steps x is) [
-      | inl only ↦ only_within more x only
-      | inr (borrows, m, has, from) ↦ one_more more x m (λ k enough. within_enough steps k m.root enough from) borrows has long
-    ]
+    within_enough (suc steps) more x long is = by_either (from_within steps x is)
+        (λ only. (only_within more x only))
+        (λ (borrows, m, has, from). (one_more more x m (λ k enough. within_enough steps k m.root enough from) borrows has long))
 
 -- a borrower is no formal
 no_variable : (k : ObjectKind) → is_formal_kind k ≡ true → is_variable k ≡ false

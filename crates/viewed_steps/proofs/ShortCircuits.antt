@@ -64,6 +64,7 @@ use Rattle.viewed_steps.specs.Seeing.{sees_in}
 use Rattle.viewed_steps.proofs.Sees.{sees_seeing}
 use Rattle.viewed_steps.proofs.Constructors.{is_call_instruction, is_end_scope_instruction, is_finish_instruction}
 use Rattle.viewed_steps.proofs.InnerFrame.{InnerFrame}
+use Rattle.soundness.proofs.Parted.{by_either}
 
 module _ (table : Table) (typed : TypedProgram) (effects : Effects) (input : List ℕ) (ready : IsReady table typed effects) where
   abbrev sees : ℕ → Bool
@@ -302,10 +303,9 @@ module _ (table : Table) (typed : TypedProgram) (effects : Effects) (input : Lis
         by_waits [] none = absurd (subst (λ z. AreFor s z (fills.0 ∷ temporaries_of s fills.1)) none left_there)
         by_waits (v ∷ vs) some =
             let mine : AreFor s (v ∷ vs) (fills.0 ∷ temporaries_of s fills.1) = subst (λ z. AreFor s z (fills.0 ∷ temporaries_of s fills.1)) some left_there in
-            let scalar_value : is_scalar (full s.table v.of) ≡ true = elim (mine.0).0 [
-              | inl both ↦ both.0
-              | inr same ↦ ap (λ z. is_scalar (full s.table z)) same ∙ scalar_first
-            ] in
+            let scalar_value : is_scalar (full s.table v.of) ≡ true = by_either (mine.0).0
+            (λ both. (both.0))
+            (λ same. (ap (λ z. is_scalar (full s.table z)) same ∙ scalar_first)) in
             operand_on temporary e None is (λ ws. steps.truth_waiting ws ∷ drop 1 (steps.waiting main_turn)) (λ ws. 0)
             (λ ws. subst (λ i. 0 < successors i) (sym is) below_one)
             (λ ws one. subst (AreFor s (steps.truth_waiting ws ∷ drop 1 (steps.waiting main_turn)))

@@ -86,6 +86,7 @@ use Rattle.viewed_steps.proofs.Sees.{sees_seeing}
 use Rattle.viewed_steps.proofs.Constructors.{is_assign_instruction, is_declare_instruction, is_hold_instruction}
 use Rattle.viewed_steps.proofs.InnerFrame.{InnerFrame}
 use Rattle.viewed_steps.proofs.Parted.{more_first, call_subs, call_actuals, name_roots, call_name, hold_same, declare_same, assign_same}
+use Rattle.soundness.proofs.Parted.{by_either}
 
 some_is : (a b : ℕ) → Some a ≡ Some b → a ≡ b
 some_is a b e = cc
@@ -343,10 +344,9 @@ module _ (table : Table) (typed : TypedProgram) (effects : Effects) (input : Lis
         same_first a b e = more_first e
 
         pub declares_view : LeadsFrom (Declare y declared_tree) (turn main_turn (Declare y declared_tree))
-        declares_view = by_source (elim found.6 [
-          | inl name ↦ absurd (no_name found.0 found.1 found.2 found.3 (tree_is ∙ name))
-          | inr (r, n, others, call, gives) ↦ (r, n, others, tree_is ∙ call, gives)
-        ])
+        declares_view = by_source (by_either found.6
+            (λ name. (absurd (no_name found.0 found.1 found.2 found.3 (tree_is ∙ name))))
+            (λ (r, n, others, call, gives). (r, n, others, tree_is ∙ call, gives)))
           where
             found : IsSource program inner.p.scope y declared_tree
             found = orderly.declared y declared_tree is view
@@ -398,10 +398,9 @@ module _ (table : Table) (typed : TypedProgram) (effects : Effects) (input : Lis
         whole = Name k y NoMore (object_at s y).of
 
         pub assigns_view : LeadsFrom (Assign whole held_call) (turn main_turn (Assign whole held_call))
-        assigns_view = by_source (elim found.4 [
-          | inl name ↦ absurd (no_name found.0 found.1 found.2 found.3 name)
-          | inr (r, n, others, call, gives) ↦ (r, n, others, call, gives)
-        ])
+        assigns_view = by_source (by_either found.4
+            (λ name. (absurd (no_name found.0 found.1 found.2 found.3 name)))
+            (λ (r, n, others, call, gives). (r, n, others, call, gives)))
           where
             no_name : (r : Pos) (b : ℕ) (w : TypedTree) (o : ℕ) → ◌≡◌ {A = TypedTree} held_call (Name r b w o) → ⊥
             no_name r b w o e = call_name e
@@ -477,13 +476,12 @@ module _ (table : Table) (typed : TypedProgram) (effects : Effects) (input : Lis
 
           by_kind : (b : Bool) → is_anonymous (full s.table u) ≡ b → LeadsFrom (Assign (Name r y steps_there u) held_call) (turn main_turn (Assign (Name r y steps_there u) held_call))
           by_kind false place = alone_value.assigns_alone table typed effects input ready inner going no_calls alone_taken r y steps_there u is calls end place
-          by_kind true view = elim (leads_or s ready.class.parts_named steps_there (object_at s y).of u text_there.1.0) [
-            | inr own_type ↦ absurd (true_false (is_anonymous (full s.table u)) view (named_plain s.table u own_type))
-            | inl whole ↦ (
-                let target_is : Name r y steps_there u ≡ Name r y NoMore (object_at s y).of = (λ j. Name r y (whole.0 j) (sym whole.1 j)) in
-                subst (λ z. LeadsFrom (Assign z held_call) (turn main_turn (Assign z held_call))) (sym target_is)
-                (assigns_view r y (is ∙ ap (λ z. Assign z held_call) target_is) end (ap (λ z. is_anonymous (full s.table z)) whole.1 ∙ view)))
-          ]
+          by_kind true view = by_either (leads_or s ready.class.parts_named steps_there (object_at s y).of u text_there.1.0)
+              (λ whole. (
+              let target_is : Name r y steps_there u ≡ Name r y NoMore (object_at s y).of = (λ j. Name r y (whole.0 j) (sym whole.1 j)) in
+              subst (λ z. LeadsFrom (Assign z held_call) (turn main_turn (Assign z held_call))) (sym target_is)
+              (assigns_view r y (is ∙ ap (λ z. Assign z held_call) target_is) end (ap (λ z. is_anonymous (full s.table z)) whole.1 ∙ view))))
+              (λ own_type. (absurd (true_false (is_anonymous (full s.table u)) view (named_plain s.table u own_type))))
 
       pub goes_alone : IsOther inner.p.instr → FillsNone s inner.p.instr → (inner.p.instr ≡ Finish → ⊥) → returns_value inner.p.instr ≡ false → Along (turn main_turn inner.p.instr)
       goes_alone other_one fills end none = elim alone_taken.8 [

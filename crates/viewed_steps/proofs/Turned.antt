@@ -51,6 +51,7 @@ use Rattle.viewed_steps.proofs.EachInstruction as each
 use Rattle.viewed_steps.specs.Seeing.{sees_in}
 use Rattle.viewed_steps.proofs.Sees.{sees_seeing}
 use Rattle.viewed_steps.proofs.InnerFrame.{InnerFrame}
+use Rattle.soundness.proofs.Parted.{by_either}
 
 module _ (table : Table) (typed : TypedProgram) (effects : Effects) (input : List ℕ) (ready : IsReady table typed effects) where
   abbrev sees : ℕ → Bool
@@ -191,20 +192,16 @@ module _ (table : Table) (typed : TypedProgram) (effects : Effects) (input : Lis
       turned_so : (turned_views : Views) → {facts : List Fact}
           → Turned easy sees seeing ready.accepted.settled ready.owns other alone inner.views ready.class.parts_named may refl refl turned_views facts
           → AreTurned inner.p.instr inner.views turned_views
-      turned_so turned_views turned x w has = elim (turned.0 x w has) [
-        | inl old ↦ inl (sym old.way ∙ has)
-        | inr (y, from, comes) ↦ inr from.1
-      ]
+      turned_so turned_views turned x w has = by_either (turned.0 x w has) (λ old. (inl (sym old.way ∙ has))) (λ (y, from, comes). (inr from.1))
 
       only_may : (turned_views : Views) (facts : List Fact)
           → Turned easy sees seeing ready.accepted.settled ready.owns other alone inner.views ready.class.parts_named may refl refl turned_views facts
           → Turned easy sees seeing ready.accepted.settled ready.owns other alone inner.views ready.class.parts_named (λ x y. MayBe program (scope_behind inner.p) x y) refl refl
           turned_views facts
       only_may turned_views facts turned = (
-        λ x w has. elim (turned.0 x w has) [
-          | inl old ↦ inl (record { way = old.way; loan = old.loan; up = old.up })
-          | inr (y, from, comes) ↦ inr (y, from.0, record { up = comes.up; root = comes.root; loan = comes.loan; under = comes.under })
-        ],
+        λ x w has. by_either (turned.0 x w has)
+            (λ old. (inl (record { way = old.way; loan = old.loan; up = old.up })))
+            (λ (y, from, comes). (inr (y, from.0, record { up = comes.up; root = comes.root; loan = comes.loan; under = comes.under }))),
         turned.1,
       )
 
@@ -212,10 +209,9 @@ module _ (table : Table) (typed : TypedProgram) (effects : Effects) (input : Lis
       passed_then : (turned_views : Views) (facts : List Fact)
           → Turned easy sees seeing ready.accepted.settled ready.owns other alone inner.views ready.class.parts_named may refl refl turned_views facts
           → (x : ℕ) (w : Way) → turned_views.way x ≡ Some w → is_given s x ≡ true → ways.Named (home s depth) (turned_views.up x) → ⊥
-      passed_then turned_views facts turned x w has formal taken_up = elim (turned.0 x w has) [
-        | inl old ↦ inner.holds.passed x w (sym old.way ∙ has) formal (subst (ways.Named (home s depth)) old.up taken_up)
-        | inr (y, from, comes) ↦ true_false (is_given s x) formal (own_there s x (orderly.variables x (inl from.1) (from.0).view))
-      ]
+      passed_then turned_views facts turned x w has formal taken_up = by_either (turned.0 x w has)
+          (λ old. (inner.holds.passed x w (sym old.way ∙ has) formal (subst (ways.Named (home s depth)) old.up taken_up)))
+          (λ (y, from, comes). (true_false (is_given s x) formal (own_there s x (orderly.variables x (inl from.1) (from.0).view))))
 
       -- no result waits that isn't taken, and what the first formal sees stays
       traversals_on : (after_step : State) (waits : List Waiting) (loops : List Loop) (n : ℕ) → returns_value inner.p.instr ≡ false → (inner.p.instr ≡ Finish → ⊥) → Left waits

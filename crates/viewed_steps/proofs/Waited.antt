@@ -17,6 +17,7 @@ use Rattle.soundness.proofs.Waits.{drop_none}
 use Rattle.soundness.proofs.Fixed.{plain_word}
 use Rattle.soundness.proofs.Waited.{FillsNone}
 use Rattle.viewed_steps.specs.Awaited.{AreFor, AreValuesBut, FillsTyped, temporaries_of, is_held, lasting_of, AreScalar}
+use Rattle.soundness.proofs.Parted.{by_either}
 
 pub split_list : {A : Type 0} (k : ℕ) (xs : List A) → take k xs ++ drop k xs ≡ xs
 split_list zero [] = refl
@@ -110,27 +111,22 @@ module _ (s : Typing) where
   -- what lasts is in scope
   pub lasting_within : (x : ℕ) (scope : List ℕ) → is_within x (lasting_of s scope) ≡ true → (is_within x scope ≡ true) × (is_held s x ≡ false)
   lasting_within x [] within = absurd (false≢true within)
-  lasting_within x (y ∷ scope) within = elim (bool_cases (is_held s y)) [
-    | inl is ↦ (
-        let later = lasting_within x scope (ap (is_within x) (sym (temporary_out y scope is)) ∙ within) in
-        (or_second (x == y) (is_within x scope) later.0, later.1))
-    | inr isnt ↦ elim (any_either (x == y) (is_within x (lasting_of s scope)) (ap (is_within x) (sym (lasting_first y scope isnt)) ∙ within)) [
-      | inl same ↦ (or_first (x == y) (is_within x scope) same, ap (is_held s) (eqb-true x y same) ∙ isnt)
-      | inr there ↦ (let later = lasting_within x scope there in (or_second (x == y) (is_within x scope) later.0, later.1))
-    ]
-  ]
+  lasting_within x (y ∷ scope) within = by_either (bool_cases (is_held s y))
+      (λ is. (
+      let later = lasting_within x scope (ap (is_within x) (sym (temporary_out y scope is)) ∙ within) in
+      (or_second (x == y) (is_within x scope) later.0, later.1)))
+      (λ isnt. (by_either (any_either (x == y) (is_within x (lasting_of s scope)) (ap (is_within x) (sym (lasting_first y scope isnt)) ∙ within))
+      (λ same. (or_first (x == y) (is_within x scope) same, ap (is_held s) (eqb-true x y same) ∙ isnt))
+      (λ there. (let later = lasting_within x scope there in (or_second (x == y) (is_within x scope) later.0, later.1)))))
 
   pub within_lasting : (x : ℕ) (scope : List ℕ) → is_within x scope ≡ true → is_held s x ≡ false → is_within x (lasting_of s scope) ≡ true
   within_lasting x [] within isnt = absurd (false≢true within)
-  within_lasting x (y ∷ scope) within lasts = elim (any_either (x == y) (is_within x scope) within) [
-    | inl same ↦
-        ap (is_within x) (lasting_first y scope (ap (is_held s) (sym (eqb-true x y same)) ∙ lasts))
-        ∙ or_first (x == y) (is_within x (lasting_of s scope)) same
-    | inr there ↦ elim (bool_cases (is_held s y)) [
-      | inl is ↦ ap (is_within x) (temporary_out y scope is) ∙ within_lasting x scope there lasts
-      | inr isnt ↦ ap (is_within x) (lasting_first y scope isnt) ∙ or_second (x == y) (is_within x (lasting_of s scope)) (within_lasting x scope there lasts)
-    ]
-  ]
+  within_lasting x (y ∷ scope) within lasts = by_either (any_either (x == y) (is_within x scope) within)
+      (λ same. (ap (is_within x) (lasting_first y scope (ap (is_held s) (sym (eqb-true x y same)) ∙ lasts))
+      ∙ or_first (x == y) (is_within x (lasting_of s scope)) same))
+      (λ there. (by_either (bool_cases (is_held s y))
+      (λ is. (ap (is_within x) (temporary_out y scope is) ∙ within_lasting x scope there lasts))
+      (λ isnt. (ap (is_within x) (lasting_first y scope isnt) ∙ or_second (x == y) (is_within x (lasting_of s scope)) (within_lasting x scope there lasts)))))
 
   pub last_lasting : (x : ℕ) (scope : List ℕ) → is_last x scope ≡ true → is_held s x ≡ false → lasting_of s (drop 1 scope) ≡ drop 1 (lasting_of s scope)
   last_lasting x [] last lasts = refl

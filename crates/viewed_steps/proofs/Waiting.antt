@@ -42,6 +42,7 @@ use Rattle.viewed_steps.proofs.Views.{base_named, same_lies}
 use Rattle.machine.specs.Owners.{waiting_in}
 use Rattle.viewed_steps.specs.Seeing.{sees_in}
 use Rattle.viewed_steps.proofs.Constructors.{is_lent_fact, is_of_cell_loc}
+use Rattle.soundness.proofs.Parted.{by_either}
 
 -- ---- near ways
 
@@ -156,16 +157,11 @@ module _ (table : Table) (typed : TypedProgram) (effects : Effects)
 
   -- the frame of the package objects has moved nothing
   first_none : (e : ViewStage) → IsFirst e → (f : Fact) → Has (withheld program effects e) f → (name : Name) → f ≡ Moved name → ⊥
-  first_none e first f has name is = elim (kept_cases program effects e f has) [
-    | inl known ↦ elim (Has-append_cases (facts_of program effects e.stage) (shown_at program e.stage) f known.0) [
-      | inl fact ↦ unmoved e.stage first.0 name (subst (Has (facts_of program effects e.stage)) is fact)
-      | inr shown ↦ shown_unmoved program (sub_of program e.stage.frame.sub) e.stage.before name (subst (Has (shown_at program e.stage)) is shown)
-    ]
-    | inr (y, passed, root) ↦ elim (passed_from effects e y passed) [
-      | inl (to, taken, same, written) ↦ subst (λ z. Has z to) (first.1).2 taken
-      | inr (c, there, same) ↦ subst (λ z. Has z c) first.4 there
-    ]
-  ]
+  first_none e first f has name is = by_either (kept_cases program effects e f has)
+      (λ known. (by_either (Has-append_cases (facts_of program effects e.stage) (shown_at program e.stage) f known.0)
+      (λ fact. (unmoved e.stage first.0 name (subst (Has (facts_of program effects e.stage)) is fact)))
+      (λ shown. (shown_unmoved program (sub_of program e.stage.frame.sub) e.stage.before name (subst (Has (shown_at program e.stage)) is shown)))))
+      (λ (y, passed, root). (by_either (passed_from effects e y passed) (λ (to, taken, same, written). (subst (λ z. Has z to) (first.1).2 taken)) (λ (c, there, same). (subst (λ z. Has z c) first.4 there))))
 
   -- no package object that is moved in a frame around is used by the innermost one
   pub unused_there : (state : State) (callee : ℕ) (backs : List Return) (older : List ViewStage) → AreWaiting table typed effects state callee backs older → (g : ViewStage) → Has older g
@@ -340,16 +336,14 @@ module _ (table : Table) (typed : TypedProgram) (effects : Effects)
     way_cases : (callee : ℕ) (backs : List Return) (g : ViewStage) → Has older g → 0 < g.stage.depth → IsWaiting table typed effects state callee backs g → SharesHere g
         → (x : ℕ) (w : Way)
         → g.views.way x ≡ Some w → Named (home s g.stage.depth) w → (is_package_object s (number_of w) ≡ false) ⊎ ((l : Loan) × IsLentFor l w)
-    way_cases callee backs g has some waits shares x w way named = elim (bool_cases (is_package_object s (number_of w))) [
-      | inr own ↦ inl own
-      | inl shared ↦ (
-          let goes = view_goes (home s g.stage.depth) sees g.views (view_here s state) (facts_of program effects g.stage) waits.views
-          (LentBy program effects older) shares x w way named in
-          elim goes.1 [
-            | inr through ↦ inr (goes.0, through_for g goes.0 w through)
-            | inl own ↦ elim (goes_for g has some waits.views goes.0 w own shared) [ inl lent ↦ inr (goes.0, lent) | inr lent ↦ inr (Borrowed, lent) ]
-          ])
-    ]
+    way_cases callee backs g has some waits shares x w way named = by_either (bool_cases (is_package_object s (number_of w)))
+        (λ shared. (
+        let goes = view_goes (home s g.stage.depth) sees g.views (view_here s state) (facts_of program effects g.stage) waits.views
+        (LentBy program effects older) shares x w way named in
+        by_either goes.1
+        (λ own. (by_either (goes_for g has some waits.views goes.0 w own shared) (λ lent. (inr (goes.0, lent))) (λ lent. (inr (Borrowed, lent)))))
+        (λ through. (inr (goes.0, through_for g goes.0 w through)))))
+        (λ own. (inl own))
 
     -- a way of a view of a frame below
     record Begins (w : Way) : Type 0 where
@@ -400,10 +394,9 @@ module _ (table : Table) (typed : TypedProgram) (effects : Effects)
 
     part_begins : (callee : ℕ) (backs : List Return) (g : ViewStage) → 0 < g.stage.depth → g.stage.depth < depth → IsWaiting table typed effects state callee backs g → SharesHere g
         → (x : ℕ) (p : List Step) (w : Way) → g.views.part_way x p ≡ Some w → Begins w
-    part_begins callee backs g some less waits shares x p w is = elim (waits.holds.low x p w is).0 [
-      | inr (foreign, low, above) ↦ foreign_begins g less w foreign low
-      | inl named ↦ (let (l, through, changed) = shares.1 x p w is named in named_begins g some less w named (inr (l, through_for g l w through)))
-    ]
+    part_begins callee backs g some less waits shares x p w is = by_either (waits.holds.low x p w is).0
+        (λ named. (let (l, through, changed) = shares.1 x p w is named in named_begins g some less w named (inr (l, through_for g l w through))))
+        (λ (foreign, low, above). (foreign_begins g less w foreign low))
 
     -- the way of a cell of a place begins at an own variable, or at a package object that is passed, or goes on from that
     -- of a view
@@ -417,10 +410,9 @@ module _ (table : Table) (typed : TypedProgram) (effects : Effects)
             object = number_of c.name;
             base = named_base (home s g.stage.depth) c.name kept.named;
             low = low_home (is_package_object s (number_of c.name)) g.stage.depth less;
-            other = elim (bool_cases (is_package_object s (number_of c.name))) [
-              | inl shared ↦ inr (Borrowed, root_for g has some (number_of c.name) c.name (cell_passed effects g c there) (named_base (home s g.stage.depth) c.name kept.named) shared)
-              | inr own ↦ inl (λ e. other_frame s g.stage.depth depth some less (number_of c.name) own (sym (ap (λ z. if z then 0 else g.stage.depth) own) ∙ e))
-            ];
+            other = by_either (bool_cases (is_package_object s (number_of c.name)))
+                (λ shared. (inr (Borrowed, root_for g has some (number_of c.name) c.name (cell_passed effects g c there) (named_base (home s g.stage.depth) c.name kept.named) shared)))
+                (λ own. (inl (λ e. other_frame s g.stage.depth depth some less (number_of c.name) own (sym (ap (λ z. if z then 0 else g.stage.depth) own) ∙ e))));
           })
           | inr (inr l) ↦ subst Begins (sym (in_part_way g.views c.name l))
               (goes_on l.way l.rest (part_begins callee backs g some less waits shares l.object l.steps l.way l.has))
@@ -434,21 +426,17 @@ module _ (table : Table) (typed : TypedProgram) (effects : Effects)
           object = b.object;
           base = base_on w rest ∙ b.base;
           low = b.low;
-          other = elim b.other [
-            | inl away ↦ inl away
-            | inr (l, (k, named, under, lent)) ↦ inr (l, (k, named, under_on k w (on w rest) under (on_under w rest), lent))
-          ];
+          other = by_either b.other (λ away. (inl away)) (λ (l, (k, named, under, lent)). (inr (l, (k, named, under_on k w (on w rest) under (on_under w rest), lent))));
         }
 
     begins_there : (w : Way) (n : ℕ) → KeptElsewhere older w n → Begins w
-    begins_there w n (g, has, way) = elim (between g has) [
-      | inl first ↦ absurd (no_cells g w n first way)
-      | inr (some, less, callee, backs, waits, shared) ↦ elim way [
-        | inl (x, is, cell) ↦ way_begins callee backs g has some less waits shared x w is (waits.holds.lies x w is)
-        | inr (inl (c, there, is, cell)) ↦ subst Begins is (cell_begins callee backs g has some less waits shared c there)
-        | inr (inr (x, p, is, cell)) ↦ part_begins callee backs g some less waits shared x p w is
-      ]
-    ]
+    begins_there w n (g, has, way) = by_either (between g has)
+        (λ first. (absurd (no_cells g w n first way)))
+        (λ (some, less, callee, backs, waits, shared). (elim way [
+          | inl (x, is, cell) ↦ way_begins callee backs g has some less waits shared x w is (waits.holds.lies x w is)
+          | inr (inl (c, there, is, cell)) ↦ subst Begins is (cell_begins callee backs g has some less waits shared c there)
+          | inr (inr (x, p, is, cell)) ↦ part_begins callee backs g some less waits shared x p w is
+        ]))
 
     pub begins_elsewhere : (w : Way) (n : ℕ) → KeptElsewhere older w n
         → (f : ℕ) × (x : ℕ) × (base_of w ≡ OfRoot (OfVariable f x)) × ((f ≡ home s depth x → ⊥) ⊎ ((l : Loan) × IsLentFor l w))
@@ -466,11 +454,10 @@ module _ (table : Table) (typed : TypedProgram) (effects : Effects)
         → base_of w ≡ OfRoot (OfVariable depth x) → ⊥
     apart_elsewhere x w (inl (n, kept)) base = kept_apart x w n kept base
     apart_elsewhere x w (inr (l, p, (g, has, (taken, inl (c, there, is, cell))))) base = kept_apart x w c.cell (g, has, inr (inl (c, there, is, refl))) base
-    apart_elsewhere x w (inr (l, p, (g, has, (taken, inr (y, shared, is, at))))) base = elim (between g has) [
-      | inl first ↦ subst (λ z. Has z (along w p)) (first.1).2 taken
-      | inr (some, less, callee, backs, waits, shared) ↦ (
-          let frames = same_frame 0 y depth x (ap base_of is ∙ base) in omega (arith, frames, some, less))
-    ]
+    apart_elsewhere x w (inr (l, p, (g, has, (taken, inr (y, shared, is, at))))) base = by_either (between g has)
+        (λ first. (subst (λ z. Has z (along w p)) (first.1).2 taken))
+        (λ (some, less, callee, backs, waits, shared). (
+        let frames = same_frame 0 y depth x (ap base_of is ∙ base) in omega (arith, frames, some, less)))
 
     -- the ways of their views begin below
     pub kept_low : (w : Way) (n : ℕ) → KeptElsewhere older w n → (f : ℕ) × (x : ℕ) × (base_of w ≡ OfRoot (OfVariable f x)) × (f < depth)
@@ -489,27 +476,24 @@ module _ (table : Table) (typed : TypedProgram) (effects : Effects)
 
     -- and so does what is gone for them
     pub gone_low : (w : Way) → GoneElsewhere program effects older w → (f : ℕ) × (x : ℕ) × (base_of w ≡ OfRoot (OfVariable f x)) × (f < depth)
-    gone_low w (g, has, inr taken) = elim (between g has) [
-      | inl first ↦ absurd (subst (λ z. TakenBy z w) (first.1).2 taken).1
-      | inr (some, less, callee, backs, waits, shared) ↦ (
-          let base = taken_base s g.stage.returns g.stage.depth
-          (words_taken s sees g.cells state.memory g.stage.depth g.views (facts_of program effects g.stage) (lasting_of s waits.point.scope) backs g.stage.returns waits.taken) w taken in
-          (base.0, base.1, base.2, (let low = begun_low s g.stage.depth base.0 base.1 base.3 in omega (arith, low, less))))
-    ]
-    gone_low w (g, has, inl (u, moved, leads)) = elim (between g has) [
-      | inl first ↦ absurd (unmoved g.stage first.0 (name_of u) moved.1)
-      | inr (some, less, callee, backs, waits, shared) ↦ (
-          elim (stood callee backs g waits u moved) [
-            | inr (foreign, low, above) ↦ (foreign.0, foreign.1, ap base_of (sym leads) ∙ foreign.2, omega (arith, low, less))
-            | inl there ↦ (
-                let named : Named (home s g.stage.depth) w = subst (Named (home s g.stage.depth)) leads there in (
-                  home s g.stage.depth (number_of w),
-                  number_of w,
-                  named_base (home s g.stage.depth) w named,
-                  low_home (is_package_object s (number_of w)) g.stage.depth less,
-                ))
-          ])
-    ]
+    gone_low w (g, has, inr taken) = by_either (between g has)
+        (λ first. (absurd (subst (λ z. TakenBy z w) (first.1).2 taken).1))
+        (λ (some, less, callee, backs, waits, shared). (
+        let base = taken_base s g.stage.returns g.stage.depth
+        (words_taken s sees g.cells state.memory g.stage.depth g.views (facts_of program effects g.stage) (lasting_of s waits.point.scope) backs g.stage.returns waits.taken) w taken in
+        (base.0, base.1, base.2, (let low = begun_low s g.stage.depth base.0 base.1 base.3 in omega (arith, low, less)))))
+    gone_low w (g, has, inl (u, moved, leads)) = by_either (between g has)
+        (λ first. (absurd (unmoved g.stage first.0 (name_of u) moved.1)))
+        (λ (some, less, callee, backs, waits, shared). (
+        by_either (stood callee backs g waits u moved)
+        (λ there. (
+        let named : Named (home s g.stage.depth) w = subst (Named (home s g.stage.depth)) leads there in (
+          home s g.stage.depth (number_of w),
+          number_of w,
+          named_base (home s g.stage.depth) w named,
+          low_home (is_package_object s (number_of w)) g.stage.depth less,
+        )))
+        (λ (foreign, low, above). (foreign.0, foreign.1, ap base_of (sym leads) ∙ foreign.2, omega (arith, low, less)))))
 
     -- a part of a package object that was taken goes on from a place that is kept
     taken_lent : (g : ViewStage) → Has older g → 0 < g.stage.depth → (callee : ℕ) (backs : List Return) → IsWaiting table typed effects state callee backs g → SharesHere g
@@ -517,71 +501,61 @@ module _ (table : Table) (typed : TypedProgram) (effects : Effects)
     taken_lent g has some callee backs waits sharing to taken y base shared w under =
         let at_home : 0 ≡ home s g.stage.depth y = ap (λ b. if b then 0 else g.stage.depth) (sym shared) in
         let based : base_of to ≡ OfRoot (OfVariable (home s g.stage.depth y) y) = base ∙ ap (λ f. OfRoot (OfVariable f y)) at_home in
-        elim (waits.goes to taken y base shared) [
-          | inl written ↦ root_for g has some y w (taken_passed effects g to y taken base written) ((longer to w under).base ∙ based) shared
-          | inr (x, u, is, given, sight, above) ↦ (
-              let named : Named (home s g.stage.depth) u = base_named (home s g.stage.depth) u y (sym (longer u to above).base ∙ based) in
-              let (l, through, changed) = sharing.0 x u is given named in
-              let (k, at, below, lent) = through_for g l u through in
-              (k, at, under_on k u w below (under_on u to w above under), subst (λ z. LentElsewhere older z (name_of k)) (changed sight) lent))
-        ]
+        by_either (waits.goes to taken y base shared)
+        (λ written. (root_for g has some y w (taken_passed effects g to y taken base written) ((longer to w under).base ∙ based) shared))
+        (λ (x, u, is, given, sight, above). (
+        let named : Named (home s g.stage.depth) u = base_named (home s g.stage.depth) u y (sym (longer u to above).base ∙ based) in
+        let (l, through, changed) = sharing.0 x u is given named in
+        let (k, at, below, lent) = through_for g l u through in
+        (k, at, under_on k u w below (under_on u to w above under), subst (λ z. LentElsewhere older z (name_of k)) (changed sight) lent)))
 
     -- what is near and gone elsewhere is a part of a package object, and goes on from a place that is kept
     pub near_lent : (w : Way) → IsNear depth w → GoneElsewhere program effects older w → IsLentFor Borrowed w
-    near_lent w near (g, has, inr (to, taken, p, is)) = elim (between g has) [
-      | inl first ↦ absurd (subst (λ z. Has z to) (first.1).2 taken)
-      | inr (some, less, callee, backs, waits, sharing) ↦ (
-          let begin = words_taken s sees g.cells state.memory g.stage.depth g.views (facts_of program effects g.stage) (lasting_of s waits.point.scope) backs g.stage.returns waits.taken to taken in
-          let based : base_of w ≡ OfRoot (OfVariable begin.0 begin.1) = ap base_of is ∙ along_base to p ∙ begin.2 in
-          elim begin.3 [
-            | inr (above, low) ↦ absurd (elim (near_base depth w begin.0 begin.1 near based) [ inl none ↦ omega (arith, above, none) | inr same ↦ omega (arith, low, less, same) ])
-            | inl at_home ↦ (
-                let own : base_of w ≡ OfRoot (OfVariable (home s g.stage.depth begin.1) begin.1) = based ∙ ap (λ f. OfRoot (OfVariable f begin.1)) at_home in
-                let there : Named (home s g.stage.depth) w = base_named (home s g.stage.depth) w begin.1 own in
-                let shared : is_package_object s begin.1 ≡ true =
-                ap (is_package_object s) (sym (number_based (home s g.stage.depth) w begin.1 there own)) ∙ near_package s g.stage.depth depth some less w there near in
-                taken_lent g has some callee backs waits sharing to taken begin.1
-                (begin.2 ∙ (λ j. OfRoot (OfVariable ((at_home ∙ ap (λ b. if b then 0 else g.stage.depth) shared) j) begin.1))) shared w
-                (subst (Under to) (sym is) (under_along to to p (under_itself to))))
-          ])
-    ]
-    near_lent w near (g, has, inl (u, moved, leads)) = elim (between g has) [
-      | inl first ↦ absurd (unmoved g.stage first.0 (name_of u) moved.1)
-      | inr (some, less, callee, backs, waits, shared) ↦ elim (plain_lifts (home s g.stage.depth) sees g.views (view_here s state) (facts_of program effects g.stage) waits.views u
-          (moved.0, waits.clear.owned (name_of u) moved.1)) [
-            | inl e ↦ (
-                let here : IsMoved (home s g.stage.depth) (facts_of program effects g.stage) w =
-                subst (IsMoved (home s g.stage.depth) (facts_of program effects g.stage)) (sym e ∙ leads) moved in
-                held_for g has some (Moved (name_of w)) w w here.1 refl here.0 (under_itself w) (near_package s g.stage.depth depth some less w here.0 near) refl)
-            | inr l ↦ elim (stood callee backs g waits u moved) [
-              | inr (foreign, low, above) ↦ absurd (elim (near_base depth w foreign.0 foreign.1 near (ap base_of (sym leads) ∙ foreign.2)) [
-                | inl none ↦ omega (arith, above, none)
-                | inr same ↦ omega (arith, low, less, same)
-              ])
-              | inl there ↦ (
-                  let plain : sees (number_of u) ≡ false = waits.clear.owned (name_of u) moved.1 in
-                  let front : Named (home s g.stage.depth) l.way = on_named (home s g.stage.depth) l.way l.rest
-                  (subst (Named (home s g.stage.depth)) (lifted_way g.views u l) there) in
-                  let same : w ≡ on l.way l.rest = sym leads ∙ lifted_way g.views u l in
-                  let named : Named (home s g.stage.depth) w = subst (Named (home s g.stage.depth)) leads there in
-                  let root : is_package_object s (number_of l.way) ≡ true =
-                  ap (is_package_object s) (sym (root_on l.way l.rest) ∙ ap number_of (sym same)) ∙ near_package s g.stage.depth depth some less w named near in
-                  let (k, at, under, lent) : IsLentFor Borrowed l.way = elim (borrower_goes (home s g.stage.depth) sees g.views (view_here s state) (facts_of program effects g.stage) waits.views
-                  (LentBy program effects older) shared l.object l.way (ap sees (sym (lifted_root g.views u l)) ∙ plain) l.has front) [
-                    | inl own ↦ elim (goes_for g has some waits.views Borrowed l.way own root) [ inl lent ↦ lent | inr lent ↦ lent ]
-                    | inr through ↦ through_for g Borrowed l.way through
-                  ] in
-                  (k, at, subst (Under k) (sym same) (under_on k l.way (on l.way l.rest) under (on_under l.way l.rest)), lent))
-            ]
-          ]
-    ]
+    near_lent w near (g, has, inr (to, taken, p, is)) = by_either (between g has)
+        (λ first. (absurd (subst (λ z. Has z to) (first.1).2 taken)))
+        (λ (some, less, callee, backs, waits, sharing). (
+        let begin = words_taken s sees g.cells state.memory g.stage.depth g.views (facts_of program effects g.stage) (lasting_of s waits.point.scope) backs g.stage.returns waits.taken to taken in
+        let based : base_of w ≡ OfRoot (OfVariable begin.0 begin.1) = ap base_of is ∙ along_base to p ∙ begin.2 in
+        by_either begin.3
+        (λ at_home. (
+        let own : base_of w ≡ OfRoot (OfVariable (home s g.stage.depth begin.1) begin.1) = based ∙ ap (λ f. OfRoot (OfVariable f begin.1)) at_home in
+        let there : Named (home s g.stage.depth) w = base_named (home s g.stage.depth) w begin.1 own in
+        let shared : is_package_object s begin.1 ≡ true =
+        ap (is_package_object s) (sym (number_based (home s g.stage.depth) w begin.1 there own)) ∙ near_package s g.stage.depth depth some less w there near in
+        taken_lent g has some callee backs waits sharing to taken begin.1
+        (begin.2 ∙ (λ j. OfRoot (OfVariable ((at_home ∙ ap (λ b. if b then 0 else g.stage.depth) shared) j) begin.1))) shared w
+        (subst (Under to) (sym is) (under_along to to p (under_itself to)))))
+        (λ (above, low). (absurd (by_either (near_base depth w begin.0 begin.1 near based) (λ none. (omega (arith, above, none))) (λ same. (omega (arith, low, less, same))))))))
+    near_lent w near (g, has, inl (u, moved, leads)) = by_either (between g has)
+        (λ first. (absurd (unmoved g.stage first.0 (name_of u) moved.1)))
+        (λ (some, less, callee, backs, waits, shared). (by_either (plain_lifts (home s g.stage.depth) sees g.views (view_here s state) (facts_of program effects g.stage) waits.views u
+        (moved.0, waits.clear.owned (name_of u) moved.1))
+        (λ e. (
+        let here : IsMoved (home s g.stage.depth) (facts_of program effects g.stage) w =
+        subst (IsMoved (home s g.stage.depth) (facts_of program effects g.stage)) (sym e ∙ leads) moved in
+        held_for g has some (Moved (name_of w)) w w here.1 refl here.0 (under_itself w) (near_package s g.stage.depth depth some less w here.0 near) refl))
+        (λ l. (by_either (stood callee backs g waits u moved)
+        (λ there. (
+        let plain : sees (number_of u) ≡ false = waits.clear.owned (name_of u) moved.1 in
+        let front : Named (home s g.stage.depth) l.way = on_named (home s g.stage.depth) l.way l.rest
+        (subst (Named (home s g.stage.depth)) (lifted_way g.views u l) there) in
+        let same : w ≡ on l.way l.rest = sym leads ∙ lifted_way g.views u l in
+        let named : Named (home s g.stage.depth) w = subst (Named (home s g.stage.depth)) leads there in
+        let root : is_package_object s (number_of l.way) ≡ true =
+        ap (is_package_object s) (sym (root_on l.way l.rest) ∙ ap number_of (sym same)) ∙ near_package s g.stage.depth depth some less w named near in
+        let (k, at, under, lent) : IsLentFor Borrowed l.way = by_either (borrower_goes (home s g.stage.depth) sees g.views (view_here s state) (facts_of program effects g.stage) waits.views
+        (LentBy program effects older) shared l.object l.way (ap sees (sym (lifted_root g.views u l)) ∙ plain) l.has front)
+        (λ own. (by_either (goes_for g has some waits.views Borrowed l.way own root) (λ lent. (lent)) (λ lent. (lent))))
+        (λ through. (through_for g Borrowed l.way through)) in
+        (k, at, subst (Under k) (sym same) (under_on k l.way (on l.way l.rest) under (on_under l.way l.rest)), lent)))
+        (λ (foreign, low, above). (absurd (by_either (near_base depth w foreign.0 foreign.1 near (ap base_of (sym leads) ∙ foreign.2)) (λ none. (omega (arith, above, none))) (λ same. (omega (arith, low, less, same))))))))))
 
     -- what is gone elsewhere and meets a way of another frame doesn't begin near
     pub far_met : (w z : Way) → IsForeign (home s depth) w → GoneElsewhere program effects older z → Under z w ⊎ Under w z → IsFar depth (GoneElsewhere program effects older) z
     far_met w z foreign gone meets = (λ near. apart near, gone)
       where
         base_there : base_of z ≡ OfRoot (OfVariable foreign.0 foreign.1)
-        base_there = elim meets [ inl above ↦ sym (longer z w above).base ∙ foreign.2 | inr below ↦ (longer w z below).base ∙ foreign.2 ]
+        base_there = by_either meets (λ above. (sym (longer z w above).base ∙ foreign.2)) (λ below. ((longer w z below).base ∙ foreign.2))
 
         at_home : Named (home s depth) z → ⊥
         at_home named =
@@ -595,18 +569,16 @@ module _ (table : Table) (typed : TypedProgram) (effects : Effects)
             at_home (base_named (home s depth) z (number_of k) ((longer k z under).base ∙ named_base (home s depth) k named))
 
     pub far : (w : Way) (n : ℕ) → KeptElsewhere older w n → Reaches (view_here s state) w (OfCell n)
-    far w n (g, has, way) = elim (between g has) [
-      | inl first ↦ absurd (no_cells g w n first way)
-      | inr (some, less, callee, backs, waits, shared) ↦ way_reaches state callee backs g waits w n way
-    ]
+    far w n (g, has, way) = by_either (between g has)
+        (λ first. (absurd (no_cells g w n first way)))
+        (λ (some, less, callee, backs, waits, shared). (way_reaches state callee backs g waits w n way))
 
     pub theirs : AreTheirs older (view_here s state)
     theirs = record {
       far = far;
-      bare = λ w l p there q k held. (let (g, has, bare) = there in elim (between g has) [
-        | inl first ↦ absurd (subst (λ z. TakenBy z (along w p)) (first.1).2 (along w p, bare.0, [], refl)).1
-        | inr (some, less, callee, backs, waits, shared) ↦ waits.bare w l p bare q k (sym (bare_word s state g w l p (q ++ p) bare) ∙ held)
-      ]);
+      bare = λ w l p there q k held. (let (g, has, bare) = there in by_either (between g has)
+          (λ first. (absurd (subst (λ z. TakenBy z (along w p)) (first.1).2 (along w p, bare.0, [], refl)).1))
+          (λ (some, less, callee, backs, waits, shared). (waits.bare w l p bare q k (sym (bare_word s state g w l p (q ++ p) bare) ∙ held))));
     }
 
     -- its cell is reached
@@ -629,22 +601,18 @@ module _ (table : Table) (typed : TypedProgram) (effects : Effects)
           b.0,
           b.1,
           b.2,
-          elim b.3 [
-            | inl away ↦ inl away
-            | inr (k, m) ↦ inr (k, (m.0, m.1, under_along m.0 w p m.2, m.3))
-          ],
+          by_either b.3 (λ away. (inl away)) (λ (k, m). (inr (k, (m.0, m.1, under_along m.0 w p m.2, m.3)))),
         )
     bare_begins w l p (g, has, (taken, inr (y, shared, is, at))) = (
       0,
       y,
       ap base_of (sym is),
-      elim (between g has) [
-        | inl first ↦ absurd (subst (λ z. Has z (along w p)) (first.1).2 taken)
-        | inr (some, less, callee, backs, waits, shares) ↦ inr (
-          Borrowed,
-          taken_lent g has some callee backs waits shares (along w p) taken y (along_base w p ∙ ap base_of (sym is)) shared (along w p) (under_itself (along w p)),
-        )
-      ],
+      by_either (between g has)
+          (λ first. (absurd (subst (λ z. Has z (along w p)) (first.1).2 taken)))
+          (λ (some, less, callee, backs, waits, shares). (inr (
+            Borrowed,
+            taken_lent g has some callee backs waits shares (along w p) taken y (along_base w p ∙ ap base_of (sym is)) shared (along w p) (under_itself (along w p)),
+          ))),
     )
 
     -- what was taken is gone for them
@@ -652,10 +620,7 @@ module _ (table : Table) (typed : TypedProgram) (effects : Effects)
         → IsFar depth (GoneElsewhere program effects older) (along w (q ++ p)) ⊎ (IsLentFor Borrowed (along w (q ++ p)) × GoneElsewhere program effects older (along w (q ++ p)))
     emptied_there w l p (g, has, bare) q =
         let gone : GoneElsewhere program effects older (along w (q ++ p)) = (g, has, inr (along w p, bare.0, q, along_both w q p)) in
-        elim (near_or_far depth (along w (q ++ p))) [
-          | inr away ↦ inl (away, gone)
-          | inl near ↦ inr (near_lent (along w (q ++ p)) near gone, gone)
-        ]
+        by_either (near_or_far depth (along w (q ++ p))) (λ near. (inr (near_lent (along w (q ++ p)) near gone, gone))) (λ away. (inl (away, gone)))
 
     -- What concerns the innermost frame when it has their facts on package objects beside its own.
     abbrev pub beside_them : Around (home s depth)

@@ -20,6 +20,7 @@ use Rattle.viewed_steps.specs.Taken.{Lodge}
 use Rattle.viewed_steps.specs.Sound.{ViewStage, known_at, passed_roots, is_passed, withheld, shared_root}
 use Rattle.viewed_steps.proofs.Whole.{flat_has}
 use Rattle.viewed_steps.proofs.Constructors.{is_moved_fact}
+use Rattle.soundness.proofs.Parted.{by_either}
 
 any_root : (ys : List ℕ) (x : ℕ) → list_any (λ y. y == x) ys ≡ true → Has ys x
 any_root [] x e = absurd (false≢true e)
@@ -67,10 +68,9 @@ module _ (program : FlowProgram) (effects : Effects) (g : ViewStage) where
   -- its loans are those of facts
   pub kept_loan : (l : Loan) (h : ℕ) (n : Name) → Has (withheld program effects g) (Lent l h n)
       → Has (known_at program effects g.stage) (Lent l h n) × (Has (passed_roots effects g) n.root → ⊥)
-  kept_loan l h n has = elim (kept_cases (Lent l h n) has) [
-    | inl fact ↦ fact
-    | inr (y, passed, is) ↦ (let no : Lent l h n ≡ Moved (object y) = is in absurd (false≢true (ap is_moved_fact no)))
-  ]
+  kept_loan l h n has = by_either (kept_cases (Lent l h n) has)
+      (λ fact. (fact))
+      (λ (y, passed, is). (let no : Lent l h n ≡ Moved (object y) = is in absurd (false≢true (ap is_moved_fact no))))
 
 -- what is taken, and cells, are of such objects
 at_first_root : (l : Loc) (y : ℕ) → l ≡ OfRoot (OfVariable 0 y) → Has (shared_root l) y
