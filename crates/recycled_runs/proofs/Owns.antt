@@ -41,6 +41,7 @@ use Rattle.recycled_runs.proofs.Walks.{GoesThrough}
 use Rattle.recycled_runs.proofs.Targets.{IsOwnName, IsNameOf, IsOwnActual, AreOwnActuals}
 use Rattle.recycled_runs.proofs.Checks.{IsOwnIn, OwnsNames}
 use Rattle.viewed_steps.specs.Seeing.{sees_in}
+use Rattle.soundness.proofs.Parted.{by_either}
 
 -- ---- lists
 
@@ -48,10 +49,7 @@ use Rattle.viewed_steps.specs.Seeing.{sees_in}
 mapped_at : {A B : Type 0} (f : A → B) (xs : List A) (n : ℕ) (d : B) → (get_or (map f xs) n d ≡ d) ⊎ ((x : A) × Has xs x × (get_or (map f xs) n d ≡ f x))
 mapped_at f [] n d = inl refl
 mapped_at f (x ∷ xs) zero d = inr (x, inl refl, refl)
-mapped_at f (x ∷ xs) (suc n) d = elim (mapped_at f xs n d) [
-  | inl past ↦ inl past
-  | inr there ↦ inr (there.0, inr there.1, there.2)
-]
+mapped_at f (x ∷ xs) (suc n) d = by_either (mapped_at f xs n d) (λ past. (inl past)) (λ there. (inr (there.0, inr there.1, there.2)))
 
 within_has : {A : Type 0} (xs : List A) (n : ℕ) (d : A) → n < length xs → Has xs (get_or xs n d)
 within_has [] n d less = absurd (omega (arith, less))
@@ -255,17 +253,15 @@ module _ (table : Table) (typed : TypedProgram) (effects : Effects) (ready : IsR
 
   pub owns_names : OwnsNames program
   unfolding flow_program
-  owns_names n k less = elim (mapped_at (flow_sub own) (flow_named table typed) n no_sub) [
-    | inl none ↦ absurd (never k (subst (λ (sub : FlowSub). k < length sub.points) none less))
-    | inr there ↦ (
-        let named : NamedSub = there.0 in
-        let sub : FlowSub = sub_of program n in
-        let q : FlowPoint = get_or sub.points k no_point in
-        elim (mapped_at (flow_at own named) named.points k no_point) [
-          | inl past ↦ subst (IsOwnIn s) (sym (ap (λ (z : FlowSub). (get_or z.points k no_point).instr) there.2 ∙ ap (λ (z : FlowPoint). z.instr) past)) tt
-          | inr at ↦ point_own sub (sub_has program.subs n k less) q (within_has sub.points k no_point less) named there.1 at.0 at.1 (ap (λ (z : FlowSub). get_or z.points k no_point) there.2 ∙ at.2) q.instr refl
-        ])
-  ]
+  owns_names n k less = by_either (mapped_at (flow_sub own) (flow_named table typed) n no_sub)
+      (λ none. (absurd (never k (subst (λ (sub : FlowSub). k < length sub.points) none less))))
+      (λ there. (
+      let named : NamedSub = there.0 in
+      let sub : FlowSub = sub_of program n in
+      let q : FlowPoint = get_or sub.points k no_point in
+      by_either (mapped_at (flow_at own named) named.points k no_point)
+      (λ past. (subst (IsOwnIn s) (sym (ap (λ (z : FlowSub). (get_or z.points k no_point).instr) there.2 ∙ ap (λ (z : FlowPoint). z.instr) past)) tt))
+      (λ at. (point_own sub (sub_has program.subs n k less) q (within_has sub.points k no_point less) named there.1 at.0 at.1 (ap (λ (z : FlowSub). get_or z.points k no_point) there.2 ∙ at.2) q.instr refl))))
     where
       never : (k : ℕ) → k < 0 → ⊥
       never k less = omega (arith, less)

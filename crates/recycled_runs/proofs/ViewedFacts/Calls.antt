@@ -27,6 +27,7 @@ use Rattle.viewed_steps.specs.Sound.{ViewStage, stages_of, Lies}
 use Rattle.viewed_steps.specs.Taken.{TakenBy, AreCarried, Lodge, IsTakenIn}
 use Rattle.recycled_runs.specs.ViewedFacts.Exact.{IsDefiniteBy}
 use Rattle.recycled_runs.proofs.ViewedFacts.Constructors.{is_of_root_loc}
+use Rattle.soundness.proofs.Parted.{by_either}
 
 -- ---- ways from variables, where words are carried
 
@@ -57,10 +58,9 @@ module _ (s : Typing) (these : ℕ → Type 0) (cells : List Lodge) (ways : List
       same_root : (r : Root) → OfRoot r ≡ OfRoot (OfVariable f x) → Object r ≡ Object (OfVariable f x)
       same_root r e = cc
   stands (Lost c) l (f, x, base, there) reach = absurd (let no : OfCell c ≡ OfRoot (OfVariable f x) = base in absurd (false≢true (ap is_of_root_loc no)))
-  stands (Into w i) l begins (k, reach, e) = elim (stands w k begins reach) [
-    | inl (f, x, p, there, is, at) ↦ inl (f, x, i ∷ p, there, ap (λ z. Into z i) is, e ∙ ap (λ z. Inside z i) at)
-    | inr (c, p, at) ↦ inr (c, i ∷ p, e ∙ ap (λ z. Inside z i) at)
-  ]
+  stands (Into w i) l begins (k, reach, e) = by_either (stands w k begins reach)
+      (λ (f, x, p, there, is, at). (inl (f, x, i ∷ p, there, ap (λ z. Into z i) is, e ∙ ap (λ z. Inside z i) at)))
+      (λ (c, p, at). (inr (c, i ∷ p, e ∙ ap (λ z. Inside z i) at)))
   stands (All w) l begins (k, c, reach, held, e) = inr (c, [], e)
 
   off_place : (w : Way) → IsOff w → TakenBy ways w → ⊥
@@ -145,32 +145,25 @@ module _ (s : Typing) (sees : ℕ → Bool) (depth : ℕ) (facts : List Fact) (n
       → ((b : ℕ) (m : PlaceName) → Has facts (Lent Borrowed b m) → (n : PlaceName) → lent Borrowed n → m.root ≡ n.root → ⊥)
       → (w : Way) → IsDefiniteBy (home s depth) v facts w → Under (expand v name) w → ⊥
   passed_clean v view views clear lent none shown spared own_moved own_borrowed w (m, moved, plain, same) under =
-      elim (meeting (home s depth) sees v view facts views lent none shown name m (named, plain_name) (moved.0, clear.owned (name_of m) moved.1)
-      (subst (Under (expand v name)) (sym same) under)) [
-        | inl below ↦ cleared (name_of m) moved.1 (under_covers name m below plain)
-        | inr more ↦ elim more [
-          | inl a ↦ clear.moved Borrowed a.object (name_of m) (name_of (v.loan a.object)) moved.1 (loan_there a.object a.lends)
-              (meet_overlaps m (v.loan a.object) (inr (under_on (v.loan a.object) a.name m a.loan a.begins)))
-          | inr more ↦ elim more [
-            | inl b ↦ unlent Borrowed b.object (name_of (v.loan b.object)) (loan_there b.object b.lends)
-                (meet_overlaps (v.loan b.object) name (flip name (v.loan b.object) b.meets))
-            | inr loans ↦ elim loans [
-              | inl c ↦ clear.lent c.one c.two (name_of (v.loan c.one)) (name_of (v.loan c.two)) (loan_there c.one c.lends) (loan_there c.two c.lent)
-                  c.differ (meet_overlaps (v.loan c.one) (v.loan c.two) c.meets)
-              | inr lone ↦ elim lone [
-                | inl l ↦ elim l.meets [
-                  | inl meets ↦ spared (name_of l.place) l.lent_it (sym (met_root name l.place meets))
-                  | inr (b, lends, meets) ↦ own_borrowed b (name_of (v.loan b)) (loan_there b lends) (name_of l.place) l.lent_it (met_root (v.loan b) l.place meets)
-                ]
-                | inr l ↦ elim l.meets [
-                  | inl meets ↦ own_moved (name_of m) moved.1 (name_of l.place) l.lent_it (met_root m l.place meets)
-                  | inr (b, lends, meets) ↦ own_borrowed b (name_of (v.loan b)) (loan_there b lends) (name_of l.place) l.lent_it (met_root (v.loan b) l.place meets)
-                ]
-              ]
-            ]
-          ]
-        ]
-      ]
+      by_either (meeting (home s depth) sees v view facts views lent none shown name m (named, plain_name) (moved.0, clear.owned (name_of m) moved.1)
+      (subst (Under (expand v name)) (sym same) under))
+      (λ below. (cleared (name_of m) moved.1 (under_covers name m below plain)))
+      (λ more. (by_either more
+      (λ a. (clear.moved Borrowed a.object (name_of m) (name_of (v.loan a.object)) moved.1 (loan_there a.object a.lends)
+      (meet_overlaps m (v.loan a.object) (inr (under_on (v.loan a.object) a.name m a.loan a.begins)))))
+      (λ more. (by_either more
+      (λ b. (unlent Borrowed b.object (name_of (v.loan b.object)) (loan_there b.object b.lends)
+      (meet_overlaps (v.loan b.object) name (flip name (v.loan b.object) b.meets))))
+      (λ loans. (by_either loans
+      (λ c. (clear.lent c.one c.two (name_of (v.loan c.one)) (name_of (v.loan c.two)) (loan_there c.one c.lends) (loan_there c.two c.lent)
+      c.differ (meet_overlaps (v.loan c.one) (v.loan c.two) c.meets)))
+      (λ lone. (by_either lone
+      (λ l. (by_either l.meets
+      (λ meets. (spared (name_of l.place) l.lent_it (sym (met_root name l.place meets))))
+      (λ (b, lends, meets). (own_borrowed b (name_of (v.loan b)) (loan_there b lends) (name_of l.place) l.lent_it (met_root (v.loan b) l.place meets)))))
+      (λ l. (by_either l.meets
+      (λ meets. (own_moved (name_of m) moved.1 (name_of l.place) l.lent_it (met_root m l.place meets)))
+      (λ (b, lends, meets). (own_borrowed b (name_of (v.loan b)) (loan_there b lends) (name_of l.place) l.lent_it (met_root (v.loan b) l.place meets)))))))))))))
     where
       loan_there : (b : ℕ) → Lends (home s depth) sees v view facts views b → Has facts (Lent Borrowed b (name_of (v.loan b)))
       loan_there b l = subst (λ z. HasLoan sees z b facts (name_of (v.loan b))) l.2 l.3.lent

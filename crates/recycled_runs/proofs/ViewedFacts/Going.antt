@@ -56,6 +56,7 @@ use Rattle.soundness.proofs.Contents.{bool_cases}
 use Rattle.soundness.proofs.ViewedSoundness.ViewKinds.{true_false}
 use Rattle.viewed_steps.specs.Seeing.{sees_in}
 use Rattle.viewed_steps.proofs.InnerFrame.{InnerFrame}
+use Rattle.soundness.proofs.Parted.{by_either}
 
 module _ (table : Table) (typed : TypedProgram) (effects : Effects) (input : List ℕ) (ready : IsReady table typed effects) where
   abbrev sees : ℕ → Bool
@@ -179,18 +180,16 @@ module _ (table : Table) (typed : TypedProgram) (effects : Effects) (input : Lis
 
     kept_cells : (cells : List Lodge) → older ≡ record { stage = next.stage; views = next.views; cells = cells } ∷ around → (c : Lodge) → Has cells c
         → Reaches (view_here s state) c.way (OfCell c.cell)
-    kept_cells cells same c has = elim (between (with_cells cells) (subst (λ gs. Has gs (with_cells cells)) (sym same) (inl refl))) [
-      | inl first ↦ absurd (subst (λ z. Has z c) first.4 has)
-      | inr (some, less, callee, backs, waits, shared) ↦ (waits.kept c has).reaches
-    ]
+    kept_cells cells same c has = by_either (between (with_cells cells) (subst (λ gs. Has gs (with_cells cells)) (sym same) (inl refl)))
+        (λ first. (absurd (subst (λ z. Has z c) first.4 has)))
+        (λ (some, less, callee, backs, waits, shared). ((waits.kept c has).reaches))
 
     -- what the frames moved is in no place that the call took
     off_places : (cells : List Lodge) → older ≡ record { stage = next.stage; views = next.views; cells = cells } ∷ around → (g : ViewStage) → Has older g
         → (w : Way) → Definite g w → (to : Way) → Has next.stage.returns to → Under to w → ⊥
-    off_places cells same g has w definite to there under = elim (subst (λ gs. Has gs g) same has) [
-      | inl is ↦ own_clear (with_cells cells) around same to there w (same_stage (with_cells cells) g is w definite) under
-      | inr other ↦ around_clear (with_cells cells) around same to there w (gone_by g around other w definite) under
-    ]
+    off_places cells same g has w definite to there under = by_either (subst (λ gs. Has gs g) same has)
+        (λ is. (own_clear (with_cells cells) around same to there w (same_stage (with_cells cells) g is w definite) under))
+        (λ other. (around_clear (with_cells cells) around same to there w (gone_by g around other w definite) under))
 
     onward_told : IsOnward top.stage next.stage → Stays top.stage.depth i top.views next.views → around ≡ older → AllTold after_step.memory (next ∷ around)
     onward_told on stays same w l (g, inl is, definite) reaches =
@@ -448,12 +447,11 @@ module _ (table : Table) (typed : TypedProgram) (effects : Effects) (input : Lis
   own_low state sound w (u, moved, plain, leads) =
       subst (λ z. (f : ℕ) × (x : ℕ) × (base_of z ≡ OfRoot (OfVariable f x)) × (f < suc sound.top.depth)) leads
       (lies_low s sound.top.depth (expand sound.views u)
-      (elim (stands (home s sound.top.depth) sees sound.views (view_here s state) (facts_of program effects sound.top) sound.viewed.views u
-      (moved.0, sound.viewed.clear.owned (name_of u) moved.1)) [
-        | inl own ↦ inl own.named
-        | inr held ↦ same_lies s sound.top.depth (expand sound.views u) held.way (longer held.way (expand sound.views u) held.under).base
-            (sound.holds.lies held.object held.way held.has)
-      ]))
+      (by_either (stands (home s sound.top.depth) sees sound.views (view_here s state) (facts_of program effects sound.top) sound.viewed.views u
+      (moved.0, sound.viewed.clear.owned (name_of u) moved.1))
+      (λ own. (inl own.named))
+      (λ held. (same_lies s sound.top.depth (expand sound.views u) held.way (longer held.way (expand sound.views u) held.under).base
+      (sound.holds.lies held.object held.way held.has)))))
 
   pub exactly_step : StepsLeadExactly table typed effects input
   exactly_step state (sound, exact) = by (step program input state) refl (sound_along table typed effects input ready state sound)

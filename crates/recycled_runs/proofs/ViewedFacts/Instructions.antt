@@ -64,6 +64,7 @@ use Rattle.recycled_runs.proofs.ViewedFacts.Checks.{place_holds}
 use Rattle.viewed_steps.proofs.Views.{AreAccess, same_named, view_cases}
 use Rattle.soundness.proofs.OwnedLoans.Meeting.{no_part, stands}
 use Rattle.recycled_runs.proofs.ViewedFacts.Constructors.{is_held_word}
+use Rattle.soundness.proofs.Parted.{by_either}
 
 same_frame : (f x g y : ℕ) → OfRoot (OfVariable f x) ≡ OfRoot (OfVariable g y) → f ≡ g
 same_frame f x g y e = cc
@@ -195,32 +196,28 @@ module _ (t : Turn) (sees : ℕ → Bool) (seeing : Seeing (typing t) sees) (set
 
   unspoken : (x : ℕ) (facts : List Fact) (z : View) → Viewed (home s depth) sees other v z facts → Speaks_not x facts
       → (w : Way) → IsDefinite (home s depth) v elsewhere facts w → Under (Object (OfVariable depth x)) w → ⊥
-  unspoken x facts z viewed (unmoved, free) w (inr e) under = elim (away w e.1) [
-    | inl far ↦ far.0 (near_under depth (Object (OfVariable depth x)) w under (inr refl))
-    | inr away_there ↦ (let (k, named, begins_it, lent) = other.through w away_there in off_lent x Borrowed k w named begins_it lent free.1 under)
-  ]
+  unspoken x facts z viewed (unmoved, free) w (inr e) under = by_either (away w e.1)
+      (λ far. (far.0 (near_under depth (Object (OfVariable depth x)) w under (inr refl))))
+      (λ away_there. (let (k, named, begins_it, lent) = other.through w away_there in off_lent x Borrowed k w named begins_it lent free.1 under))
   unspoken x facts z viewed (unmoved, free) w (inl d) under =
       let begins_there = longer (Object (OfVariable depth x)) w under in
       let root : number_of (expand v d.0) ≡ x = ap number_of d.3 ∙ begins_there.root in
-      elim (stands (home s depth) sees v z facts viewed.views d.0 (d.1.0, viewed.clear.owned (way_name d.0) d.1.1)) [
-        | inr held ↦ elim (home_or_foreign (home s depth) held.way held.passed.begins) [
-          | inr foreign ↦ (free.0 held.object held.way held.has).0 foreign
-              (same_frame foreign.0 foreign.1 depth x
-              (sym foreign.2 ∙ sym (longer held.way (expand v d.0) held.under).base ∙ ap base_of d.3 ∙ begins_there.base))
-          | inl at_home ↦ (
-              let (loan, (k, named, begins_it, lent), changed) = viewed.shown.0 held.object held.way held.has held.passed.given at_home in
-              off_lent x loan k w named (subst (Under k) d.3 (under_on k held.way (expand v d.0) begins_it held.under)) lent free.1 under)
-        ]
-        | inl own ↦ (
-            let named : Named (home s depth) w = subst (Named (home s depth)) d.3 own.named in
-            let at_home : home s depth x ≡ depth =
-            ap (home s depth) (sym begins_there.root)
-            ∙ same_frame (home s depth (number_of w)) (number_of w) depth x (sym (named_base (home s depth) w named) ∙ begins_there.base) in
-            elim (stands_root v d.0 (no_part (home s depth) sees v z facts viewed.views d.0 (viewed.clear.owned (way_name d.0) d.1.1))) [
-              | inl e ↦ unmoved (way_name d.0) d.1.1 (sym e ∙ root) (sym at_home)
-              | inr (y, k, has, e, base) ↦ (free.0 y k has).1 (same_named (home s depth) k w (sym base ∙ ap base_of d.3) named) at_home (sym e ∙ root)
-            ])
-      ]
+      by_either (stands (home s depth) sees v z facts viewed.views d.0 (d.1.0, viewed.clear.owned (way_name d.0) d.1.1))
+      (λ own. (
+      let named : Named (home s depth) w = subst (Named (home s depth)) d.3 own.named in
+      let at_home : home s depth x ≡ depth =
+      ap (home s depth) (sym begins_there.root)
+      ∙ same_frame (home s depth (number_of w)) (number_of w) depth x (sym (named_base (home s depth) w named) ∙ begins_there.base) in
+      by_either (stands_root v d.0 (no_part (home s depth) sees v z facts viewed.views d.0 (viewed.clear.owned (way_name d.0) d.1.1)))
+      (λ e. (unmoved (way_name d.0) d.1.1 (sym e ∙ root) (sym at_home)))
+      (λ (y, k, has, e, base). ((free.0 y k has).1 (same_named (home s depth) k w (sym base ∙ ap base_of d.3) named) at_home (sym e ∙ root)))))
+      (λ held. (by_either (home_or_foreign (home s depth) held.way held.passed.begins)
+      (λ at_home. (
+      let (loan, (k, named, begins_it, lent), changed) = viewed.shown.0 held.object held.way held.has held.passed.given at_home in
+      off_lent x loan k w named (subst (Under k) d.3 (under_on k held.way (expand v d.0) begins_it held.under)) lent free.1 under))
+      (λ foreign. ((free.0 held.object held.way held.has).0 foreign
+      (same_frame foreign.0 foreign.1 depth x
+      (sym foreign.2 ∙ sym (longer held.way (expand v d.0) held.under).base ∙ ap base_of d.3 ∙ begins_there.base))))))
 
   pub then_declared : (x : ℕ) → is_view_formal s x ≡ false → (facts : List Fact) (y : Evaluated (List machine.Word)) → Given_here (object_at s x).of facts y → ExactTo_here facts y → Speaks_not x facts
       → ExactOn facts [] (steps.evaluated t y (λ ws n. goes t (declared depth x ws n) 0))

@@ -68,6 +68,7 @@ use Rattle.recycled_runs.proofs.ViewedFacts.Stepping.{checks_hold}
 use Rattle.recycled_runs.proofs.ViewedFacts.ScopeEnds.{ended_checks_hold}
 use Rattle.viewed_steps.specs.Seeing.{sees_in}
 use Rattle.viewed_steps.proofs.InnerFrame.{InnerFrame}
+use Rattle.soundness.proofs.Parted.{by_either}
 
 pub end_or : (i : Instruction) → ((x : ℕ) × (i ≡ EndScope x)) ⊎ ((x : ℕ) → i ≡ EndScope x → ⊥)
 end_or (EndScope x) = inl (x, refl)
@@ -282,22 +283,16 @@ module _ (table : Table) (typed : TypedProgram) (effects : Effects) (input : Lis
               (followed.modes table typed effects input ready inner.state inner.top older outer inner.named inner.p inner.frames inner.of_sub inner.at_point inner.path n actuals result e f traversed)
 
       call_holds : Holds inner.top inner.state
-      call_holds = elim (acting.traverses_or table typed effects input ready inner n actuals result e) [
-        | inl none ↦ plain_holds none
-        | inr (f, traversed) ↦ traversal_holds f traversed
-      ]
+      call_holds = by_either (acting.traverses_or table typed effects input ready inner n actuals result e) (λ none. (plain_holds none)) (λ (f, traversed). (traversal_holds f traversed))
 
     main_holds : Holds inner.top inner.state
-    main_holds = elim (finish_or inner.p.instr) [
-      | inl finishes ↦ finish_holds inner.state inner.top inner.named inner.p inner.of_sub inner.at_point finishes
-      | inr end ↦ elim (end_or inner.p.instr) [
-        | inl (y, is) ↦ laid_holds inner.state inner.top inner.named inner.p inner.of_sub inner.at_point (ended_checks_hold table typed effects input ready inner exact_before y is)
-        | inr going ↦ elim (call_or inner.p.instr) [
-          | inr calls ↦ laid_holds inner.state inner.top inner.named inner.p inner.of_sub inner.at_point (checks_hold table typed effects input ready inner exact_before going calls end)
-          | inl (n, actuals, result, e) ↦ call_holds n actuals result e
-        ]
-      ]
-    ]
+    main_holds = by_either (finish_or inner.p.instr)
+        (λ finishes. (finish_holds inner.state inner.top inner.named inner.p inner.of_sub inner.at_point finishes))
+        (λ end. (by_either (end_or inner.p.instr)
+        (λ (y, is). (laid_holds inner.state inner.top inner.named inner.p inner.of_sub inner.at_point (ended_checks_hold table typed effects input ready inner exact_before y is)))
+        (λ going. (by_either (call_or inner.p.instr)
+        (λ (n, actuals, result, e). (call_holds n actuals result e))
+        (λ calls. (laid_holds inner.state inner.top inner.named inner.p inner.of_sub inner.at_point (checks_hold table typed effects input ready inner exact_before going calls end)))))))
 
   by_stages : (state : State) (top : Stage) (views : Views) (older : List ViewStage) (fs : List Frame) → state.frames ≡ fs → AreStages (top ∷ stages_of older) fs
       → IsRunning table typed effects state (record { stage = top; views = views; cells = [] }) older → AreAwaited table typed None (top ∷ stages_of older)

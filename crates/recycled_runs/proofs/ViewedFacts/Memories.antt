@@ -40,6 +40,7 @@ use Rattle.soundness.proofs.ExactFacts.Parts.{plain_leaf}
 use Rattle.soundness.proofs.ExactFacts.Memories.{sels_part, named_part, end_plain, Shows, same_told}
 use Rattle.recycled_runs.specs.ViewedFacts.Exact.{IsDefinite, IsExact}
 use Rattle.recycled_runs.proofs.ViewedFacts.Steps.{no_hand_base, stands_variable, IsOthers, definite_variable, variables_after, told_still, told_put, told_given, told_taken, left_variable, told_ended}
+use Rattle.soundness.proofs.Parted.{by_either}
 
 marked : (x : machine.Word) (g : Bool) → g ≡ true → owner_at x g ≡ Gone
 marked x true e = refl
@@ -101,13 +102,12 @@ module _ (s : Typing) (settled : IsSettled s.table) (home : ℕ → ℕ) (observ
       -- nothing at or below the name is gone
       whole : (p : List Step) → is_leaf s.table (content s m rest (trunk l)).of (p ++ steps_in l) ≡ true
           → (get_or (content s m rest (trunk l)).slots (offset_in s.table (content s m rest (trunk l)).of (p ++ steps_in l)) no_slot).gone ≡ false
-      whole p leaf = elim (bool_cases (get_or (content s m rest (trunk l)).slots (offset_in s.table (content s m rest (trunk l)).of (p ++ steps_in l)) no_slot).gone) [
-        | inr e ↦ e
-        | inl e ↦ absurd (clean (viewed.known (along (expand v u) p) (part l p)
-            (named_along (expand v u) p (variable_rooted (expand v u) (whole_variable m rest leaks facts viewed u named plain)))
-            (reaches_along (seen s m rest leaks) (expand v u) l p reaches)
-            (word_part s.table (content s m rest) l p ∙ word_yes s.table (content s m rest (trunk l)) (p ++ steps_in l) owns leaf ∙ marked _ _ e)))
-      ]
+      whole p leaf = by_either (bool_cases (get_or (content s m rest (trunk l)).slots (offset_in s.table (content s m rest (trunk l)).of (p ++ steps_in l)) no_slot).gone)
+          (λ e. (absurd (clean (viewed.known (along (expand v u) p) (part l p)
+          (named_along (expand v u) p (variable_rooted (expand v u) (whole_variable m rest leaks facts viewed u named plain)))
+          (reaches_along (seen s m rest leaks) (expand v u) l p reaches)
+          (word_part s.table (content s m rest) l p ∙ word_yes s.table (content s m rest (trunk l)) (p ++ steps_in l) owns leaf ∙ marked _ _ e)))))
+          (λ e. (e))
         where
           clean : ExcusedBy home v other facts (along (expand v u) p) → ⊥
           clean (inl moved) =

@@ -96,6 +96,7 @@ use Rattle.viewed_steps.specs.Seeing.{sees_in}
 use Rattle.viewed_steps.proofs.Sees.{sees_seeing}
 use Rattle.viewed_steps.proofs.InnerFrame.{InnerFrame}
 use Rattle.viewed_steps.proofs.Parted.{more_first, more_none, call_name}
+use Rattle.soundness.proofs.Parted.{by_either}
 
 module _ (table : Table) (typed : TypedProgram) (effects : Effects) (input : List ℕ) (ready : IsReady table typed effects) where
   abbrev sees : ℕ → Bool
@@ -339,11 +340,10 @@ module _ (table : Table) (typed : TypedProgram) (effects : Effects) (input : Lis
         declares_view y is view =
             let found = orderly.declared y (More call NoMore) is view in
             let tree_is : call ≡ found.4 = same_first call found.4 found.5 in
-            elim found.6 [
-              | inl name ↦ absurd (no_name found.0 found.1 found.2 found.3 (tree_is ∙ name))
-              | inr (r, n, others, call_is, gives) ↦ declared_main (after (acts_by (Declare y (More call NoMore))) facts_now) y (More call NoMore)
-                  (sighted.declared_so table typed effects input ready inner exact_before going no_calls taken_alone y n found.0 r found.2 found.3 others found.1 (tree_is ∙ call_is) gives view (orderly.variables y (inl (inl (More call NoMore, is))) view) (inl (More call NoMore, is)))
-            ]
+            by_either found.6
+            (λ name. (absurd (no_name found.0 found.1 found.2 found.3 (tree_is ∙ name))))
+            (λ (r, n, others, call_is, gives). (declared_main (after (acts_by (Declare y (More call NoMore))) facts_now) y (More call NoMore)
+            (sighted.declared_so table typed effects input ready inner exact_before going no_calls taken_alone y n found.0 r found.2 found.3 others found.1 (tree_is ∙ call_is) gives view (orderly.variables y (inl (inl (More call NoMore, is))) view) (inl (More call NoMore, is)))))
 
         assigns_view : (k : Pos) (y : ℕ) → inner.p.instr ≡ Assign (Name k y NoMore (object_at s y).of) call → is_anonymous (view_of s y) ≡ true
             → Exacts (Assign (Name k y NoMore (object_at s y).of) call)
@@ -351,14 +351,12 @@ module _ (table : Table) (typed : TypedProgram) (effects : Effects) (input : Lis
             let found = orderly.assigned k y (object_at s y).of call is view in
             let target : TypedTree = Name k y NoMore (object_at s y).of in
             let stored_there : IsStoredAt inner.p.instr y = inr (k, (object_at s y).of, call, is) in
-            elim found.4 [
-              | inl name ↦ absurd (no_name found.0 found.1 found.2 found.3 name)
-              | inr (r, n, others, call_is, gives) ↦
-                  subst (λ z. ExactAt (after (acts_by (Assign target call)) facts_now) (map (spot k (name_of y NoMore) (length (acts_in s call ++ acts_in s NoMore))) z) (turn at (Assign target call)))
-                  (sym (view_parts easy sees seeing ready.accepted.settled ready.owns other alone in_formals inner.views ready.class.parts_named none_taken refl refl elsewhere away Excused y view))
-                  (assigned_main (after (acts_by (Assign target call)) facts_now) [] target (object_at s y).of call
-                  (sighted.put_so table typed effects input ready inner exact_before going no_calls taken_alone y n found.0 r found.2 found.3 others found.1 call_is gives view (orderly.variables y (inl stored_there) view) stored_there k))
-            ]
+            by_either found.4
+            (λ name. (absurd (no_name found.0 found.1 found.2 found.3 name)))
+            (λ (r, n, others, call_is, gives). (subst (λ z. ExactAt (after (acts_by (Assign target call)) facts_now) (map (spot k (name_of y NoMore) (length (acts_in s call ++ acts_in s NoMore))) z) (turn at (Assign target call)))
+            (sym (view_parts easy sees seeing ready.accepted.settled ready.owns other alone in_formals inner.views ready.class.parts_named none_taken refl refl elsewhere away Excused y view))
+            (assigned_main (after (acts_by (Assign target call)) facts_now) [] target (object_at s y).of call
+            (sighted.put_so table typed effects input ready inner exact_before going no_calls taken_alone y n found.0 r found.2 found.3 others found.1 call_is gives view (orderly.variables y (inl stored_there) view) stored_there k))))
 
         declares_owner : (y : ℕ) → inner.p.instr ≡ Declare y (More call NoMore) → is_anonymous (view_of s y) ≡ false → Exacts (Declare y (More call NoMore))
         unfolding acts_in initial
@@ -417,21 +415,19 @@ module _ (table : Table) (typed : TypedProgram) (effects : Effects) (input : Lis
 
             by_kind : (b : Bool) → is_anonymous (full s.table u) ≡ b → Exacts (Assign (Name r y steps_there u) call)
             by_kind false place = assigns_place r y steps_there u is calls end place
-            by_kind true view = elim (leads_or s ready.class.parts_named steps_there (object_at s y).of u text_there.1.0) [
-              | inr own_type ↦ absurd (true_false (is_anonymous (full s.table u)) view (named_plain s.table u own_type))
-              | inl whole ↦ (
-                  let target_is : Name r y steps_there u ≡ Name r y NoMore (object_at s y).of = (λ j. Name r y (whole.0 j) (sym whole.1 j)) in
-                  subst (λ z. Exacts (Assign z call)) (sym target_is)
-                  (assigns_view r y (is ∙ ap (λ z. Assign z call) target_is) (ap (λ z. is_anonymous (full s.table z)) whole.1 ∙ view)))
-            ]
+            by_kind true view = by_either (leads_or s ready.class.parts_named steps_there (object_at s y).of u text_there.1.0)
+                (λ whole. (
+                let target_is : Name r y steps_there u ≡ Name r y NoMore (object_at s y).of = (λ j. Name r y (whole.0 j) (sym whole.1 j)) in
+                subst (λ z. Exacts (Assign z call)) (sym target_is)
+                (assigns_view r y (is ∙ ap (λ z. Assign z call) target_is) (ap (λ z. is_anonymous (full s.table z)) whole.1 ∙ view))))
+                (λ own_type. (absurd (true_false (is_anonymous (full s.table u)) view (named_plain s.table u own_type))))
 
         returns_alone : (of : ℕ) → inner.p.instr ≡ Hold (More call NoMore) → inner.named.sub.result ≡ Some of → Source s of call
             → AllowsAll facts_now (acts_by (Hold (More call NoMore))) → AllKeep (is_fixed s sees) (acts_by (Hold (More call NoMore))) → Exacts (Hold (More call NoMore))
         unfolding acts_in
-        returns_alone of is result source allowed_there keep = elim (bool_cases (is_anonymous (full s.table of))) [
-          | inl view ↦ returns_view call of is result source view
-          | inr owner ↦ holds_value call of is result owner (λ type_there allows keeps. call_exact of type_there) allowed_there keep
-        ]
+        returns_alone of is result source allowed_there keep = by_either (bool_cases (is_anonymous (full s.table of)))
+            (λ view. (returns_view call of is result source view))
+            (λ owner. (holds_value call of is result owner (λ type_there allows keeps. call_exact of type_there) allowed_there keep))
 
         -- the value is of what the function returns
         result_there : inner.p.instr ≡ Hold (More call NoMore) → (r : Option ℕ) → inner.named.sub.result ≡ r → Returns s r (More call NoMore)
@@ -468,11 +464,10 @@ module _ (table : Table) (typed : TypedProgram) (effects : Effects) (input : Lis
           where
             after_it : (name : PlaceName) → Has (after (acts_by (Declare x v)) facts_now) (Moved name) → name.root ≡ x → depth ≡ home s depth x → ⊥
             after_it name has root at_home =
-                elim (after_splits (acts_by (Declare x v)) facts_now own_facts around (innermost.from_both table typed effects input ready inner) (Moved name) has) [
-                  | inl mine ↦ packages.new_after table typed effects input ready inner.state inner.top older outer inner.named inner.p inner.frames inner.of_sub inner.at_point inner.path x v e no_calls name
-                      (subst (λ i. Has (after (acts_by i) own_facts) (Moved name)) (sym e) mine) root
-                  | inr there ↦ absurd (innermost.not_handed table typed effects input ready inner name there)
-                ]
+                by_either (after_splits (acts_by (Declare x v)) facts_now own_facts around (innermost.from_both table typed effects input ready inner) (Moved name) has)
+                (λ mine. (packages.new_after table typed effects input ready inner.state inner.top older outer inner.named inner.p inner.frames inner.of_sub inner.at_point inner.path x v e no_calls name
+                (subst (λ i. Has (after (acts_by i) own_facts) (Moved name)) (sym e) mine) root))
+                (λ there. (absurd (innermost.not_handed table typed effects input ready inner name there)))
 
             from_source : (q : Pos) (y u : ℕ) (path_of : TypedTree) → v ≡ More (Name q y path_of u) NoMore → is_anonymous (view_of s x) ≡ true → Exacts (Declare x v)
             from_source q y u path_of here_is view =
@@ -488,12 +483,11 @@ module _ (table : Table) (typed : TypedProgram) (effects : Effects) (input : Lis
             by_view : (b : Bool) → is_anonymous (view_of s x) ≡ b → Exacts (Declare x v)
             by_view true view =
                 let source = orderly.declared x v e view in
-                elim source.6 [
-                  | inl is ↦ from_source source.0 source.1 source.3 source.2 (source.5 ∙ ap (λ z. More z NoMore) is) view
-                  | inr (r, n, more, is, gives) ↦ absurd (gives_no_call s r n (object_at s x).of (More (Name source.0 source.1 source.2 source.3) more) gives
-                      (first_plain s (CallIn r n (More (Name source.0 source.1 source.2 source.3) more))
-                      (subst (GivesPlainly s) (source.5 ∙ ap (λ z. More z NoMore) is) (subst (TakesScalars s) e plain.1))))
-                ]
+                by_either source.6
+                (λ is. (from_source source.0 source.1 source.3 source.2 (source.5 ∙ ap (λ z. More z NoMore) is) view))
+                (λ (r, n, more, is, gives). (absurd (gives_no_call s r n (object_at s x).of (More (Name source.0 source.1 source.2 source.3) more) gives
+                (first_plain s (CallIn r n (More (Name source.0 source.1 source.2 source.3) more))
+                (subst (GivesPlainly s) (source.5 ∙ ap (λ z. More z NoMore) is) (subst (TakesScalars s) e plain.1))))))
             by_view false owner =
                 declared_main (after (acts_by (Declare x v)) facts_now) x v
                 (declare_on easy sees seeing ready.accepted.settled ready.owns other alone in_formals inner.views ready.class.parts_named none_taken refl refl elsewhere away Excused given_words x v (plain_named s.table (object_at s x).of owner) (orderly.begun x v e) text
@@ -515,11 +509,10 @@ module _ (table : Table) (typed : TypedProgram) (effects : Effects) (input : Lis
                 → AllowsAll facts_now (acts_by (Assign (Name q x NoMore (object_at s x).of) e)) → Exacts (Assign (Name q x NoMore (object_at s x).of) e)
             to_view source view instr_is allowed_here =
                 let found = orderly.assigned q x (object_at s x).of e instr_is view in
-                elim found.4 [
-                  | inl named_so ↦ from_name found.0 found.1 found.3 found.2 named_so found.6
-                  | inr (r, n, more, call_is, gives) ↦ absurd (gives_no_call s r n (object_at s x).of (More (Name found.0 found.1 found.2 found.3) more) gives
-                      (subst (GivesPlainly s) call_is (subst (TakesScalars s) instr_is plain.1)))
-                ]
+                by_either found.4
+                (λ named_so. (from_name found.0 found.1 found.3 found.2 named_so found.6))
+                (λ (r, n, more, call_is, gives). (absurd (gives_no_call s r n (object_at s x).of (More (Name found.0 found.1 found.2 found.3) more) gives
+                (subst (GivesPlainly s) call_is (subst (TakesScalars s) instr_is plain.1)))))
               where
                 from_name : (r : Pos) (y w : ℕ) (path_of : TypedTree) → e ≡ Name r y path_of w → (is_observer s x ≡ false → y ≡ x)
                     → Exacts (Assign (Name q x NoMore (object_at s x).of) e)
@@ -538,27 +531,25 @@ module _ (table : Table) (typed : TypedProgram) (effects : Effects) (input : Lis
                     (subst (λ z. AllowsAll facts_now (acts_by (Assign (Name q x NoMore (object_at s x).of) z))) here_is allowed_here) exact)))
 
             by_view : Source s u e → (b : Bool) → is_anonymous (full s.table u) ≡ b → Exacts (Assign (Name q x steps u) e)
-            by_view source (false) owner = elim source [
-              | inl view ↦ absurd (true_false (is_anonymous (full s.table u)) view.0 owner)
-              | inr gives ↦ (
-                  let own_type : IsNamed s.table u = plain_named s.table u owner in
-                  let same_acts = assigned_acts s inner.p.pos x u (Name q x steps u) steps e own_type leads in
-                  let two = takes_both (waits_in e) (waits_in steps) given_words [] (takes_of plain.0 (Assign (Name q x steps u) e) is) in
-                  subst (λ z. ExactAt (after (acts z) facts_now) (spots_by (Assign (Name q x steps u) e)) (turn at (Assign (Name q x steps u) e))) (sym same_acts)
-                  (assigned_main (after (acts (stored_acts s (Name q x steps u) e)) facts_now) (spots_by (Assign (Name q x steps u) e)) (Name q x steps u) u e
-                  (assign_on easy sees seeing ready.accepted.settled ready.owns other alone in_formals inner.views ready.class.parts_named none_taken refl refl elsewhere away Excused given_words two.0 q x u steps e own_type gives leads
-                  (subst (TakesScalars s) is plain.1) two.1 two.2 facts_now (good plain)
-                  (subst (λ z. AllowsAll facts_now (acts z)) same_acts allowed_there) (subst (λ z. AllKeep (is_fixed s sees) (acts z)) same_acts keep) exact (length front)
-                  (knows (Assign (Name q x steps u) e) is front (record { pos = q; act = act.Write (name_of x steps) } ∷ []) same_acts q (name_of x steps) (parts s.table u)))))
-            ]
-            by_view source true view = elim (leads_or s ready.class.parts_named steps (object_at s x).of u leads) [
-              | inr own_type ↦ absurd (true_false (is_anonymous (full s.table u)) view (named_plain s.table u own_type))
-              | inl whole ↦ (
-                  let target_is : Name q x steps u ≡ Name q x NoMore (object_at s x).of = (λ j. Name q x (whole.0 j) (sym whole.1 j)) in
-                  subst (λ z. Exacts (Assign z e)) (sym target_is)
-                  (to_view (subst (λ z. Source s z e) (sym whole.1) source) (ap (λ z. is_anonymous (full s.table z)) whole.1 ∙ view)
-                  (is ∙ ap (λ z. Assign z e) target_is) (subst (λ z. AllowsAll facts_now (acts_by (Assign z e))) target_is allowed_there)))
-            ]
+            by_view source (false) owner = by_either source
+                (λ view. (absurd (true_false (is_anonymous (full s.table u)) view.0 owner)))
+                (λ gives. (
+                let own_type : IsNamed s.table u = plain_named s.table u owner in
+                let same_acts = assigned_acts s inner.p.pos x u (Name q x steps u) steps e own_type leads in
+                let two = takes_both (waits_in e) (waits_in steps) given_words [] (takes_of plain.0 (Assign (Name q x steps u) e) is) in
+                subst (λ z. ExactAt (after (acts z) facts_now) (spots_by (Assign (Name q x steps u) e)) (turn at (Assign (Name q x steps u) e))) (sym same_acts)
+                (assigned_main (after (acts (stored_acts s (Name q x steps u) e)) facts_now) (spots_by (Assign (Name q x steps u) e)) (Name q x steps u) u e
+                (assign_on easy sees seeing ready.accepted.settled ready.owns other alone in_formals inner.views ready.class.parts_named none_taken refl refl elsewhere away Excused given_words two.0 q x u steps e own_type gives leads
+                (subst (TakesScalars s) is plain.1) two.1 two.2 facts_now (good plain)
+                (subst (λ z. AllowsAll facts_now (acts z)) same_acts allowed_there) (subst (λ z. AllKeep (is_fixed s sees) (acts z)) same_acts keep) exact (length front)
+                (knows (Assign (Name q x steps u) e) is front (record { pos = q; act = act.Write (name_of x steps) } ∷ []) same_acts q (name_of x steps) (parts s.table u))))))
+            by_view source true view = by_either (leads_or s ready.class.parts_named steps (object_at s x).of u leads)
+                (λ whole. (
+                let target_is : Name q x steps u ≡ Name q x NoMore (object_at s x).of = (λ j. Name q x (whole.0 j) (sym whole.1 j)) in
+                subst (λ z. Exacts (Assign z e)) (sym target_is)
+                (to_view (subst (λ z. Source s z e) (sym whole.1) source) (ap (λ z. is_anonymous (full s.table z)) whole.1 ∙ view)
+                (is ∙ ap (λ z. Assign z e) target_is) (subst (λ z. AllowsAll facts_now (acts_by (Assign z e))) target_is allowed_there))))
+                (λ own_type. (absurd (true_false (is_anonymous (full s.table u)) view (named_plain s.table u own_type))))
         assigns target e is (v, never, source) allowed_there keep = absurd never
 
         -- ---- other instructions
@@ -694,13 +685,12 @@ module _ (table : Table) (typed : TypedProgram) (effects : Effects) (input : Lis
         holds_plain : (e : TypedTree) (of : ℕ) → inner.p.instr ≡ Hold (More e NoMore) → inner.named.sub.result ≡ Some of → Source s of e
             → AllowsAll facts_now (acts_by (Hold (More e NoMore))) → AllKeep (is_fixed s sees) (acts_by (Hold (More e NoMore))) → Exacts (Hold (More e NoMore))
         unfolding GivesPlainly waits_in
-        holds_plain e of is result source allowed_there keep = elim (bool_cases (is_anonymous (full s.table of))) [
-          | inl view ↦ returns_view e of is result source view
-          | inr owner ↦ holds_value e of is result owner (λ type_there allows keeps.
-              source_exact easy sees seeing ready.accepted.settled ready.owns other alone in_formals inner.views ready.class.parts_named none_taken refl refl elsewhere away Excused given_words of e type_there source (subst (TakesScalars s) is plain.1).0
-              (takes_as (taken (Hold (More e NoMore))) (waits_in e) given_words [] (nothing_more (waits_in e)) (takes_of plain.0 (Hold (More e NoMore)) is))
-              facts_now (good plain) allows keeps exact) allowed_there keep
-        ]
+        holds_plain e of is result source allowed_there keep = by_either (bool_cases (is_anonymous (full s.table of)))
+            (λ view. (returns_view e of is result source view))
+            (λ owner. (holds_value e of is result owner (λ type_there allows keeps.
+            source_exact easy sees seeing ready.accepted.settled ready.owns other alone in_formals inner.views ready.class.parts_named none_taken refl refl elsewhere away Excused given_words of e type_there source (subst (TakesScalars s) is plain.1).0
+            (takes_as (taken (Hold (More e NoMore))) (waits_in e) given_words [] (nothing_more (waits_in e)) (takes_of plain.0 (Hold (More e NoMore)) is))
+            facts_now (good plain) allows keeps exact) allowed_there keep))
 
         returns : (v : TypedTree) (r : Option ℕ) → inner.p.instr ≡ Hold v → inner.named.sub.result ≡ r → Returns s r v → AllowsAll facts_now (acts_by (Hold v))
             → AllKeep (is_fixed s sees) (acts_by (Hold v)) → Exacts (Hold v)

@@ -34,6 +34,7 @@ use Rattle.viewed_steps.proofs.Views.{base_named}
 use Rattle.soundness.proofs.ExactFacts.Steps.{fact_before, under_covers, named_variable, Keeps, told_on, variable_begins, variable_rooted}
 use Rattle.recycled_runs.specs.ViewedFacts.Exact.{IsDefiniteBy, IsDefinite}
 use Rattle.recycled_runs.proofs.ViewedFacts.Constructors.{is_empty_word, is_held_word}
+use Rattle.soundness.proofs.Parted.{by_either}
 
 -- ---- ways that begin at variables
 
@@ -186,15 +187,14 @@ module _ (home : ℕ → ℕ) (observer : ℕ → Bool) (other : Around home) (v
       only : (w : Way) → Definite (effect (Write (name_of k)) facts) w
           → (Definite facts w × (Under (expand v k) w → ⊥)) ⊎ ((p : List Step) × (w ≡ along (Object (OfHand h)) p) × (t.word (part (OfRoot (OfHand h)) p) ≡ Gone))
       only w (inr e) = inl (inr e, λ under. off_elsewhere s facts viewed k (named, plain) (λ n m. write_unlent facts k allowed Borrowed n m) w under e.1)
-      only w (inl d) = elim (fact_before (Write (name_of k)) facts (Moved (name_of d.0)) d.1.1) [
-        | inl old ↦ inl (
-          inl (d.0, (d.1.0, old.0), d.2, d.3),
-          λ under. (
-              let below : Under k d.0 = begins_name s facts viewed k d.0 (named, plain) (λ n m. write_unlent facts k allowed Borrowed n m) (d.1.0, old.0) (subst (Under (expand v k)) (sym d.3) under) in
-              let covered = under_covers k d.0 below d.2 in let kept = old.1 in cc),
-        )
-        | inr none ↦ absurd none
-      ]
+      only w (inl d) = by_either (fact_before (Write (name_of k)) facts (Moved (name_of d.0)) d.1.1)
+          (λ old. (inl (
+            inl (d.0, (d.1.0, old.0), d.2, d.3),
+            λ under. (
+                let below : Under k d.0 = begins_name s facts viewed k d.0 (named, plain) (λ n m. write_unlent facts k allowed Borrowed n m) (d.1.0, old.0) (subst (Under (expand v k)) (sym d.3) under) in
+                let covered = under_covers k d.0 below d.2 in let kept = old.1 in cc),
+          )))
+          (λ none. (absurd none))
 
   -- a variable gets a value, of which no fact speaks
   pub told_given : (s t : View) (h : ℕ) (k : Way) (to : Loc) (facts : List Fact) → Viewed home observer other v s facts
@@ -224,11 +224,10 @@ module _ (home : ℕ → ℕ) (observer : ℕ → Bool) (other : Around home) (v
       only : (w : Way) → Definite (effect (Move (name_of k) parts) facts) w
           → (Definite facts w × (Under (Object (OfHand h)) w → ⊥)) ⊎ ((p : List Step) × (w ≡ along (expand v k) p) × (t.word (part from p) ≡ Gone))
       only w (inr e) = inl (inr e, λ under. hand_apart s facts viewed h w under (inr e))
-      only w (inl d) = elim (fact_before (Move (name_of k) parts) facts (Moved (name_of d.0)) d.1.1) [
-        | inl old ↦ (let was : Definite facts w = inl (d.0, (d.1.0, old.0), d.2, d.3) in inl (was, λ under. hand_apart s facts viewed h w under was))
-        | inr new ↦ (let found = takes d.0 d.1.0 d.2 new in
-            inr (found.0, sym d.3 ∙ ap (expand v) found.1 ∙ expand_along v k found.0, found.2))
-      ]
+      only w (inl d) = by_either (fact_before (Move (name_of k) parts) facts (Moved (name_of d.0)) d.1.1)
+          (λ old. (let was : Definite facts w = inl (d.0, (d.1.0, old.0), d.2, d.3) in inl (was, λ under. hand_apart s facts viewed h w under was)))
+          (λ new. (let found = takes d.0 d.1.0 d.2 new in
+          inr (found.0, sym d.3 ∙ ap (expand v) found.1 ∙ expand_along v k found.0, found.2)))
 
   -- ---- a cell is freed, and its name becomes null
 
@@ -257,13 +256,12 @@ module _ (home : ℕ → ℕ) (observer : ℕ → Bool) (other : Around home) (v
 
       by : Told t (Definite (effect (Free (name_of k)) facts))
       by w l (inr e) reach = stays w l (inr e) (λ under. off_elsewhere s facts viewed k (named, plain) (λ n m. free_unlent facts k allowed Borrowed n m) w under e.1) reach
-      by w l (inl d) reach = elim (fact_before (Free (name_of k)) facts (Moved (name_of d.0)) d.1.1) [
-        | inr none ↦ absurd none
-        | inl old ↦ stays w l (inl (d.0, (d.1.0, old.0), d.2, d.3))
-            (λ under. (
-            let below : Under k d.0 = begins_name s facts viewed k d.0 (named, plain) (λ n m. free_unlent facts k allowed Borrowed n m) (d.1.0, old.0) (subst (Under (expand v k)) (sym d.3) under) in
-            let covered = under_covers k d.0 below d.2 in let kept = old.1 in cc)) reach
-      ]
+      by w l (inl d) reach = by_either (fact_before (Free (name_of k)) facts (Moved (name_of d.0)) d.1.1)
+          (λ old. (stays w l (inl (d.0, (d.1.0, old.0), d.2, d.3))
+          (λ under. (
+          let below : Under k d.0 = begins_name s facts viewed k d.0 (named, plain) (λ n m. free_unlent facts k allowed Borrowed n m) (d.1.0, old.0) (subst (Under (expand v k)) (sym d.3) under) in
+          let covered = under_covers k d.0 below d.2 in let kept = old.1 in cc)) reach))
+          (λ none. (absurd none))
 
   -- ---- acts that move nothing
 
@@ -310,11 +308,10 @@ module _ (home : ℕ → ℕ) (observer : ℕ → Bool) (other : Around home) (v
       by_name : (u : Way) → IsMoved home facts u → has_elem (sels_of u) ≡ false → expand t u ≡ w → s.word l ≡ Gone
       by_name u moved plain same = elim (lifts t u) [
         | inr (inr inner) ↦ absurd (none_in t seen_then u (plain_moved u moved) inner)
-        | inr (inl a) ↦ elim (turned a.object a.way a.has) [
-          | inr unmoved ↦ absurd (unmoved (name_of u) moved.1 (lifted_root t u a))
-          | inl old ↦ (let before : Lifted v u = record { frame = a.frame; object = a.object; rest = a.rest; way = a.way; is = a.is; has = old } in
-              told w l (inl (u, moved, plain, lifted_way v u before ∙ sym (lifted_way t u a) ∙ same)) reach)
-        ]
+        | inr (inl a) ↦ by_either (turned a.object a.way a.has)
+            (λ old. (let before : Lifted v u = record { frame = a.frame; object = a.object; rest = a.rest; way = a.way; is = a.is; has = old } in
+            told w l (inl (u, moved, plain, lifted_way v u before ∙ sym (lifted_way t u a) ∙ same)) reach))
+            (λ unmoved. (absurd (unmoved (name_of u) moved.1 (lifted_root t u a))))
         | inl e ↦ elim (lifts v u) [
           | inl f ↦ told w l (inl (u, moved, plain, f ∙ sym e ∙ same)) reach
           | inr (inr inner) ↦ absurd (none_in v seen_before u (plain_moved u moved) inner)
@@ -380,16 +377,14 @@ module _ (home : ℕ → ℕ) (observer : ℕ → Bool) (other : Around home) (v
       by : Told t (IsDefinite home left elsewhere (effect (EndScope x borrower) facts))
       by w l (inr e) reach =
           stays w l (inr e)
-          (λ under. elim (apart w e.1) [
-            | inl far ↦ far.0 (place x) under refl
-            | inr away ↦ (let (k, named, begins_it, lent) = other.through w away in
-                unlent Borrowed (name_of k) lent (sym (longer k w begins_it).root ∙ (longer (place x) w under).root))
-          ]) reach
-      by w l (inl d) reach = elim (fact_before (EndScope x borrower) facts (Moved (name_of d.0)) d.1.1) [
-        | inr none ↦ absurd none
-        | inl old ↦ stays w l (inl (d.0, (d.1.0, old.0), d.2, d.3))
-            (λ under. (
-            let number : number_of d.0 ≡ x = own_root d.0 (d.1.0, old.0) (ap base_of d.3 ∙ (longer (place x) w under).base) in
-            let ends = eq-eqb (number_of d.0) x number in
-            let kept = old.1 in cc)) reach
-      ]
+          (λ under. by_either (apart w e.1)
+          (λ far. (far.0 (place x) under refl))
+          (λ away. (let (k, named, begins_it, lent) = other.through w away in
+          unlent Borrowed (name_of k) lent (sym (longer k w begins_it).root ∙ (longer (place x) w under).root)))) reach
+      by w l (inl d) reach = by_either (fact_before (EndScope x borrower) facts (Moved (name_of d.0)) d.1.1)
+          (λ old. (stays w l (inl (d.0, (d.1.0, old.0), d.2, d.3))
+          (λ under. (
+          let number : number_of d.0 ≡ x = own_root d.0 (d.1.0, old.0) (ap base_of d.3 ∙ (longer (place x) w under).base) in
+          let ends = eq-eqb (number_of d.0) x number in
+          let kept = old.1 in cc)) reach))
+          (λ none. (absurd none))

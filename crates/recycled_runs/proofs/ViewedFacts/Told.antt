@@ -67,6 +67,7 @@ use Rattle.viewed_steps.proofs.Sees.{sees_seeing}
 use Rattle.recycled_runs.proofs.ViewedFacts.Constructors.{is_declare_instruction, is_goes_outcome, is_hold_instruction}
 use Rattle.viewed_steps.proofs.InnerFrame.{InnerFrame}
 use Rattle.recycled_runs.proofs.Parted.{goes_states}
+use Rattle.soundness.proofs.Parted.{by_either}
 
 assigned_same : {a b c d : TypedTree} → Assign a b ≡ Assign c d → b ≡ d
 assigned_same e = cc
@@ -242,11 +243,10 @@ module _ (table : Table) (typed : TypedProgram) (effects : Effects) (input : Lis
           by_fine : IsFine s None (Assign (Name q x NoMore u) e) → ⊥
           by_fine (v, (leads, type), source) =
               let found = orderly.assigned q x u e is view in
-              elim found.4 [
-                | inl named_so ↦ from_name (plain_there q x u e found.0 found.1 found.2 found.3 named_so is (ap (λ z. is_anonymous (full s.table z)) (sym leads) ∙ view)) found.0 found.1 found.3 found.2 named_so (found.6 borrows)
-                    (subst (λ z. Source s z e) (sym (leads ∙ type)) source) leads
-                | inr (r, k, more, call_is, gives) ↦ from_call found.0 found.1 found.3 found.2 r k more call_is leads
-              ]
+              by_either found.4
+              (λ named_so. (from_name (plain_there q x u e found.0 found.1 found.2 found.3 named_so is (ap (λ z. is_anonymous (full s.table z)) (sym leads) ∙ view)) found.0 found.1 found.3 found.2 named_so (found.6 borrows)
+              (subst (λ z. Source s z e) (sym (leads ∙ type)) source) leads))
+              (λ (r, k, more, call_is, gives). (from_call found.0 found.1 found.3 found.2 r k more call_is leads))
             where
               from_call : (a : Pos) (y w : ℕ) (path_of : TypedTree) (r : Pos) (k : ℕ) (more : TypedTree) → e ≡ call_tree r k a y path_of w more → (object_at s x).of ≡ u → ⊥
               from_call a y w path_of r k more here_is of =
@@ -278,7 +278,7 @@ module _ (table : Table) (typed : TypedProgram) (effects : Effects) (input : Lis
       formal_kept q x u e is end formal = by_fine (subst (IsFine s inner.named.sub.result) is fine_here)
         where
           owner : is_anonymous (view_of s x) ≡ false
-          owner = elim (bool_cases (is_anonymous (view_of s x))) [ inl anonymous ↦ absurd ((in_formals x formal).1 anonymous) | inr none ↦ none ]
+          owner = by_either (bool_cases (is_anonymous (view_of s x))) (λ anonymous. (absurd ((in_formals x formal).1 anonymous))) (λ none. (none))
 
           target : TypedTree
           target = Name q x NoMore u

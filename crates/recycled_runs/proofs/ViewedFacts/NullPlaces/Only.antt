@@ -13,6 +13,7 @@ use Rattle.soundness.specs.Seen.{Content, content, is_view_formal}
 use Rattle.soundness.specs.Typed.{loc_of}
 use Rattle.soundness.proofs.Memories.{put_same, put_other, removed_same, removed_other}
 use Rattle.recycled_runs.proofs.ViewedFacts.NullPlaces.Memories.{NoneGone}
+use Rattle.soundness.proofs.Parted.{by_either}
 
 abbrev pub IsGone : List Slot → ℕ → Type 0
 IsGone xs o = (get_or xs o no_slot).gone ≡ true
@@ -115,15 +116,14 @@ module _ (s : Typing) (m : Memory) where
   -- slots of a variable or cell that has them gone already
   put_less : (b : Base) (xs : List Slot) → ((o : ℕ) → IsGone xs o → IsGone (slots_at s m b) o) → LessGone s m (put b xs m)
   put_less (OfVariable f x) xs less (OfCell k) o gone = (gone, refl)
-  put_less (OfVariable f x) xs less (OfVariable g y) o gone = elim (same_loc (there f x) (there g y)) [
-    | inl e ↦ (
-        let same = parts_same f x g y e in
-        let mine : variable_slots s g y (with_variable f x xs m.variables) ≡ xs =
-        (λ j. variable_slots s (sym same.0 j) (sym same.1 j) (with_variable f x xs m.variables)) ∙ put_same s f x xs m.variables in
-        let was : IsGone (variable_slots s f x m.variables) o = less o (subst (λ z. IsGone z o) mine gone) in
-        (subst (λ z. IsGone z o) (λ j. variable_slots s (same.0 j) (same.1 j) m.variables) was, refl))
-    | inr ne ↦ (subst (λ z. IsGone z o) (put_other s f x g y (λ e. ne (ap OfRoot e)) xs m.variables) gone, refl)
-  ]
+  put_less (OfVariable f x) xs less (OfVariable g y) o gone = by_either (same_loc (there f x) (there g y))
+      (λ e. (
+      let same = parts_same f x g y e in
+      let mine : variable_slots s g y (with_variable f x xs m.variables) ≡ xs =
+      (λ j. variable_slots s (sym same.0 j) (sym same.1 j) (with_variable f x xs m.variables)) ∙ put_same s f x xs m.variables in
+      let was : IsGone (variable_slots s f x m.variables) o = less o (subst (λ z. IsGone z o) mine gone) in
+      (subst (λ z. IsGone z o) (λ j. variable_slots s (same.0 j) (same.1 j) m.variables) was, refl)))
+      (λ ne. (subst (λ z. IsGone z o) (put_other s f x g y (λ e. ne (ap OfRoot e)) xs m.variables) gone, refl))
   put_less (OfCell n) xs less (OfVariable g y) o gone = (gone, refl)
   put_less (OfCell zero) xs less (OfCell k) o gone = (gone, refl)
   put_less (OfCell (suc n)) xs less (OfCell zero) o gone = (gone, refl)
@@ -145,14 +145,13 @@ module _ (s : Typing) (m : Memory) where
     where
       less : LessGone s m (undeclared f x m)
       less (OfCell k) o gone = (gone, refl)
-      less (OfVariable g y) o gone = elim (same_loc (there f x) (there g y)) [
-        | inl e ↦ (
-            let same = parts_same f x g y e in
-            let mine : variable_slots s g y (filter (λ v. not (is_variable f x v)) m.variables) ≡ fresh (default s.table (object_at s x).of) =
-            (λ j. variable_slots s (sym same.0 j) (sym same.1 j) (filter (λ v. not (is_variable f x v)) m.variables)) ∙ removed_same s f x m.variables in
-            let no : true ≡ false = sym (subst (λ z. IsGone z o) mine gone) ∙ fresh_whole (default s.table (object_at s x).of) o in absurd (true≢false no))
-        | inr ne ↦ (subst (λ z. IsGone z o) (removed_other s f x g y (λ e. ne (ap OfRoot e)) m.variables) gone, refl)
-      ]
+      less (OfVariable g y) o gone = by_either (same_loc (there f x) (there g y))
+          (λ e. (
+          let same = parts_same f x g y e in
+          let mine : variable_slots s g y (filter (λ v. not (is_variable f x v)) m.variables) ≡ fresh (default s.table (object_at s x).of) =
+          (λ j. variable_slots s (sym same.0 j) (sym same.1 j) (filter (λ v. not (is_variable f x v)) m.variables)) ∙ removed_same s f x m.variables in
+          let no : true ≡ false = sym (subst (λ z. IsGone z o) mine gone) ∙ fresh_whole (default s.table (object_at s x).of) o in absurd (true≢false no)))
+          (λ ne. (subst (λ z. IsGone z o) (removed_other s f x g y (λ e. ne (ap OfRoot e)) m.variables) gone, refl))
 
   pub freed_only : OnlyOwners s m → (n : ℕ) → OnlyOwners s (freed n m)
   freed_only only n = only_less s m (freed n m) only (less n)
@@ -209,10 +208,9 @@ module _ (s : Typing) (m : Memory) where
     where
       less : LessGone s m (without_frame f m)
       less (OfCell k) o gone = (gone, refl)
-      less (OfVariable g y) o gone = elim (still f g y m.variables o gone) [
-        | inl was ↦ (was, refl)
-        | inr same ↦ (
-            let mine : variable_slots s g y (others f m.variables) ≡ fresh (default s.table (object_at s y).of) =
-            ap (λ k. variable_slots s k y (others f m.variables)) (sym same) ∙ none_left f y m.variables in
-            let no : true ≡ false = sym (subst (λ z. IsGone z o) mine gone) ∙ fresh_whole (default s.table (object_at s y).of) o in absurd (true≢false no))
-      ]
+      less (OfVariable g y) o gone = by_either (still f g y m.variables o gone)
+          (λ was. (was, refl))
+          (λ same. (
+          let mine : variable_slots s g y (others f m.variables) ≡ fresh (default s.table (object_at s y).of) =
+          ap (λ k. variable_slots s k y (others f m.variables)) (sym same) ∙ none_left f y m.variables in
+          let no : true ≡ false = sym (subst (λ z. IsGone z o) mine gone) ∙ fresh_whole (default s.table (object_at s y).of) o in absurd (true≢false no)))

@@ -24,6 +24,7 @@ use Rattle.soundness.proofs.Memories.{marked_length}
 use Rattle.soundness.proofs.Steps.{matches_words, alike, plain_shape, room, taken_slots, put_at, put_off, same_there}
 use Rattle.recycled_runs.proofs.ViewedFacts.NullPlaces.Memories.{NoneGone}
 use Rattle.recycled_runs.proofs.ViewedFacts.NullPlaces.Only.{IsGone, OwnersGone, OnlyOwners}
+use Rattle.soundness.proofs.Parted.{by_either}
 
 pub is_false : (b : Bool) → (b ≡ true → ⊥) → b ≡ false
 is_false true e = absurd (e refl)
@@ -68,10 +69,9 @@ module _ (s : Typing) (settled : IsSettled s.table) (m : Memory) (hands : List W
 
   -- then nothing that the place has is gone
   pub spot_whole : OnlyOwners s m → Kept s m hands → (k : Place) (l : Loc) → Spot s m hands k l → IsWhole l → NoneGone (slots_of s m k)
-  spot_whole only kept k l spot clean i = elim (cases_lt i (words s.table k.of)) [
-    | inr past ↦ ap (λ (x : Slot). x.gone) (get_or_past (slots_of s m k) i no_slot (let long = (taken_slots s settled m k space).0 in omega (arith, past, long)))
-    | inl lt ↦ is_false (get_or (slots_of s m k) i no_slot).gone (λ gone. inside lt gone)
-  ]
+  spot_whole only kept k l spot clean i = by_either (cases_lt i (words s.table k.of))
+      (λ lt. (is_false (get_or (slots_of s m k) i no_slot).gone (λ gone. inside lt gone)))
+      (λ past. (ap (λ (x : Slot). x.gone) (get_or_past (slots_of s m k) i no_slot (let long = (taken_slots s settled m k space).0 in omega (arith, past, long)))))
     where
       space : k.at + words s.table k.of ≤ length (slots_at s m k.base)
       space = room s settled m hands kept k l spot
@@ -92,12 +92,9 @@ module _ (s : Typing) (settled : IsSettled s.table) (m : Memory) (hands : List W
           let at = found.2 in
           let start = spot.at in
           let long = matches_words s.table settled k.of (type_in s.table c.of (steps_in l)) spot.of in
-          elim (leaf_outside s.table settled c.of found.0 (steps_in l) found.1 spot.there (λ r e. (
+          by_either (leaf_outside s.table settled c.of found.0 (steps_in l) found.1 spot.there (λ r e. (
           let whole = clean r (subst (λ z. is_leaf s.table c.of z ≡ true) e found.1) in
-          let no : true ≡ false = sym there ∙ ap (λ o. (get_or c.slots o no_slot).gone) (sym at ∙ ap (offset_in s.table c.of) e) ∙ whole in absurd (true≢false no)))) [
-            | inl before ↦ absurd (omega (arith, before, at, start))
-            | inr behind ↦ absurd (omega (arith, behind, at, start, long, lt))
-          ]
+          let no : true ≡ false = sym there ∙ ap (λ o. (get_or c.slots o no_slot).gone) (sym at ∙ ap (offset_in s.table c.of) e) ∙ whole in absurd (true≢false no)))) (λ before. (absurd (omega (arith, before, at, start)))) (λ behind. (absurd (omega (arith, behind, at, start, long, lt))))
 
   -- ---- what is known not to be gone
 

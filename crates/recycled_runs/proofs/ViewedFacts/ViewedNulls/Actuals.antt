@@ -78,6 +78,7 @@ use Rattle.soundness.proofs.ViewedSoundness.Outcomes.{named_plain}
 use Rattle.soundness.specs.Ready.{root_of}
 use Rattle.machine.specs.typed_tree.Trees as typed
 use Rattle.recycled_runs.proofs.ViewedFacts.Constructors.{is_in_mode}
+use Rattle.soundness.proofs.Parted.{by_either}
 
 -- A name that goes through an access value has steps.
 some_selectors : (s : Typing) (t u : ℕ) (path : TypedTree) → Leads s t path u → goes_through_none path ≡ false → selectors path ≡ [] → ⊥
@@ -288,34 +289,31 @@ module _ (h : Here) (sees : ℕ → Bool) (seeing : Seeing h.typing sees) (settl
   unfolding Compares goes_through_none has_call waiting
   one_same mode.In false access x e is fits unseen kind stays clears direct before on fit takes compares allowed spared =
       let there = stays.0 (both_no (is_owning h.typing.table (object_at h.typing x).of) (is_anonymous (view_of h.typing x)) fits unseen) in
-      elim there.1 [
-        | inl (plain, stay) ↦ (value_passed_same h settled own_law asks m hands facts law before on x e stay
-            (takes_supplied h.typing settled m e before on (scalar_types h.typing e (object_at h.typing x).of plain there.0 fit) takes) tt compares allowed).0
-        | inr (many, named) ↦ copied_same before on x e fits named there.0 fit takes compares allowed
-      ]
-  one_same mode.In true access x e is fits unseen kind stays clears direct before on fit takes compares allowed spared = elim kind [
-    | inl plain ↦ absurd (true_false (is_owning h.typing.table (object_at h.typing x).of) fits (plain_type h.typing own_law (object_at h.typing x).of plain))
-    | inr other_kind ↦ elim other_kind [
-      | inl back ↦ absurd (back.0 is)
-      | inr (inl shown) ↦ (let seen_there = stays.1 (ap (λ b. b || is_anonymous (view_of h.typing x)) fits) in
-          shown_same before on x e seen_there (takes_supplied h.typing settled m e before on (seen_types h.typing x e seen_there fit) takes) compares allowed (clears shown))
-      | inr (inr plain) ↦ absurd (true_false (is_owning h.typing.table (object_at h.typing x).of) fits plain.1)
-    ]
-  ]
+      by_either there.1
+      (λ (plain, stay). ((value_passed_same h settled own_law asks m hands facts law before on x e stay
+      (takes_supplied h.typing settled m e before on (scalar_types h.typing e (object_at h.typing x).of plain there.0 fit) takes) tt compares allowed).0))
+      (λ (many, named). (copied_same before on x e fits named there.0 fit takes compares allowed))
+  one_same mode.In true access x e is fits unseen kind stays clears direct before on fit takes compares allowed spared = by_either kind
+      (λ plain. (absurd (true_false (is_owning h.typing.table (object_at h.typing x).of) fits (plain_type h.typing own_law (object_at h.typing x).of plain))))
+      (λ other_kind. (elim other_kind [
+        | inl back ↦ absurd (back.0 is)
+        | inr (inl shown) ↦ (let seen_there = stays.1 (ap (λ b. b || is_anonymous (view_of h.typing x)) fits) in
+            shown_same before on x e seen_there (takes_supplied h.typing settled m e before on (seen_types h.typing x e seen_there fit) takes) compares allowed (clears shown))
+        | inr (inr plain) ↦ absurd (true_false (is_owning h.typing.table (object_at h.typing x).of) fits plain.1)
+      ]))
   one_same mode.Out owning access x (Name p y path u) is fits unseen kind (t, (lead, type), match, which) clears direct before on fit takes compares allowed spared =
       (to_passed_same h settled own_law asks m hands facts law before on owning access x p y u path lead (takes_supplied h.typing settled m (Name p y path u) before on (place_types h.typing (Name p y path u) t (lead, type) fit) takes) tt compares allowed (IsAt h asks m hands facts u)
       (place_finds on x p y u path (direct refl))).0
   one_same mode.Out owning access x e is fits unseen kind (t, never, match, which) clears direct before on fit takes compares allowed spared = absurd never
   one_same mode.InOut owning access x (Name p y path u) is fits unseen kind (t, (lead, type), match, which) clears direct before on fit takes compares allowed spared =
-      elim (bool_cases (is_scalar (full h.typing.table (object_at h.typing x).of))) [
-        | inl plain ↦ (from_passed_same h settled own_law asks m hands facts law before on owning access x p y u path lead (takes_supplied h.typing settled m (Name p y path u) before on (place_types h.typing (Name p y path u) t (lead, type) fit) takes) tt compares allowed (IsAt h asks m hands facts u)
-            (λ k there. scalar_none h settled own_law asks m hands facts law k there.0 u there.1 there.2
-            (subst (λ z. is_scalar (full h.typing.table z) ≡ true) (sym type) (scalar_type t (object_at h.typing x).of match plain)))
-            (place_finds on x p y u path (direct refl))).0
-        | inr many ↦ (from_passed_same h settled own_law asks m hands facts law before on owning access x p y u path lead (takes_supplied h.typing settled m (Name p y path u) before on (place_types h.typing (Name p y path u) t (lead, type) fit) takes) tt compares allowed (WholeAt u)
-            (λ k there. there.3)
-            (λ way goes. kept_finds many way goes (direct refl))).0
-      ]
+      by_either (bool_cases (is_scalar (full h.typing.table (object_at h.typing x).of)))
+      (λ plain. ((from_passed_same h settled own_law asks m hands facts law before on owning access x p y u path lead (takes_supplied h.typing settled m (Name p y path u) before on (place_types h.typing (Name p y path u) t (lead, type) fit) takes) tt compares allowed (IsAt h asks m hands facts u)
+      (λ k there. scalar_none h settled own_law asks m hands facts law k there.0 u there.1 there.2
+      (subst (λ z. is_scalar (full h.typing.table z) ≡ true) (sym type) (scalar_type t (object_at h.typing x).of match plain)))
+      (place_finds on x p y u path (direct refl))).0))
+      (λ many. ((from_passed_same h settled own_law asks m hands facts law before on owning access x p y u path lead (takes_supplied h.typing settled m (Name p y path u) before on (place_types h.typing (Name p y path u) t (lead, type) fit) takes) tt compares allowed (WholeAt u)
+      (λ k there. there.3)
+      (λ way goes. kept_finds many way goes (direct refl))).0))
     where
       own_type : Kind x → is_scalar (full h.typing.table (object_at h.typing x).of) ≡ false → IsNamed h.typing.table (object_at h.typing x).of
       own_type (inl plain) many = absurd (true_false (is_scalar (full h.typing.table (object_at h.typing x).of)) plain many)
@@ -338,10 +336,9 @@ module _ (h : Here) (sees : ℕ → Bool) (seeing : Seeing h.typing sees) (settl
 
       kept_finds : is_scalar (full h.typing.table (object_at h.typing x).of) ≡ false → (way : List run.Step) → Goes h.typing.table (object_at h.typing y).of u path way
           → IsOpenActual h.typing sees h.frame facts (Name p y path u) → Finds h asks m hands facts on y way (WholeAt u)
-      kept_finds many way goes (sight, opens) = elim (bool_cases (goes_through_none path)) [
-        | inl none ↦ direct_finds many way goes none
-        | inr some ↦ through_finds on y u path way goes sight (λ empty. some_selectors h.typing (object_at h.typing y).of u path lead some (no_selectors h.typing.table (object_at h.typing y).of u path way goes empty)) (spared many)
-      ]
+      kept_finds many way goes (sight, opens) = by_either (bool_cases (goes_through_none path))
+          (λ none. (direct_finds many way goes none))
+          (λ some. (through_finds on y u path way goes sight (λ empty. some_selectors h.typing (object_at h.typing y).of u path lead some (no_selectors h.typing.table (object_at h.typing y).of u path way goes empty)) (spared many)))
   one_same mode.InOut owning access x e is fits unseen kind (t, never, match, which) clears direct before on fit takes compares allowed spared = absurd never
 
   -- ---- all of them

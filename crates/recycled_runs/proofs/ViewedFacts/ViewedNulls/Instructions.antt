@@ -50,6 +50,7 @@ use Rattle.recycled_runs.proofs.ViewedFacts.ViewedNulls.Sources.{view_declared_s
 use Rattle.viewed_steps.proofs.Views.{AreAccess}
 use Rattle.viewed_steps.specs.Seeing.{sees_in}
 use Rattle.viewed_steps.proofs.Sees.{sees_seeing}
+use Rattle.soundness.proofs.Parted.{by_either}
 
 module _ (table : Table) (typed : TypedProgram) (effects : Effects) (input : List ℕ) (ready : IsReady table typed effects) where
   abbrev sees : ℕ → Bool
@@ -126,13 +127,12 @@ module _ (table : Table) (typed : TypedProgram) (effects : Effects) (input : Lis
           by_view true view =
               let found = orderly.declared x e is view in
               let variable_here = orderly.variables x (inl (inl (e, is))) view in
-              elim found.6 [
-                | inl named_is ↦ subst (DeclaresSame x) (sym (found.5 ∙ ap (λ z. More z NoMore) named_is)) (view_declares x found.0 found.1 found.3 found.2 view variable_here)
-                    text plainly takes compares allowed keep
-                | inr (r, k, more, call_is, gives) ↦ subst (λ z. Same (Declare x z)) (sym (found.5 ∙ ap (λ z. More z NoMore) call_is))
-                    (call_declared_same t sees seeing ready.accepted.settled ready.owns other alone in_formals v ready.class.parts_named facts so only n agrees
-                    x r k (More (Name found.0 found.1 found.2 found.3) more) view)
-              ]
+              by_either found.6
+              (λ named_is. (subst (DeclaresSame x) (sym (found.5 ∙ ap (λ z. More z NoMore) named_is)) (view_declares x found.0 found.1 found.3 found.2 view variable_here)
+              text plainly takes compares allowed keep))
+              (λ (r, k, more, call_is, gives). (subst (λ z. Same (Declare x z)) (sym (found.5 ∙ ap (λ z. More z NoMore) call_is))
+              (call_declared_same t sees seeing ready.accepted.settled ready.owns other alone in_formals v ready.class.parts_named facts so only n agrees
+              x r k (More (Name found.0 found.1 found.2 found.3) more) view)))
           by_view false owner =
               let own_type : IsNamed s.table (object_at s x).of = plain_named s.table (object_at s x).of owner in
               let kinds = not_views s x own_type in
@@ -162,15 +162,14 @@ module _ (table : Table) (typed : TypedProgram) (effects : Effects) (input : Lis
       to_view : (q : Pos) (x : ℕ) (path : TypedTree) (u : ℕ) (e : TypedTree) → p.instr ≡ Assign (Name q x path u) e → path ≡ NoMore → (object_at s x).of ≡ u
           → Source s u e → is_anonymous (full s.table u) ≡ true → AssignsSame (Name q x path u) e
       to_view q x path u e is nothing type source view =
-          subst (λ z. AssignsSame z e) (sym target_is) (elim found.4 [
-            | inl named_is ↦ subst (λ z. AssignsSame (Name q x NoMore (object_at s x).of) z) (sym named_is)
-                (view_assigns q x found.0 found.1 found.3 found.2 view_there (orderly.variables x (inl (inr (q, (object_at s x).of, e, is ∙ ap (λ z. Assign z e) target_is))) view_there) found.6
-                (subst (Source s (object_at s x).of) named_is (subst (λ z. Source s z e) (sym type) source)))
-            | inr (r, k, more, call_is, gives) ↦ (λ plainly takes compares allowed keep.
-                subst (λ z. Same (Assign (Name q x NoMore (object_at s x).of) z)) (sym call_is)
-                (call_assigned_same t sees seeing ready.accepted.settled ready.owns other alone in_formals v ready.class.parts_named facts so only n agrees
-                q x r k (More (Name found.0 found.1 found.2 found.3) more) view_there))
-          ])
+          subst (λ z. AssignsSame z e) (sym target_is) (by_either found.4
+          (λ named_is. (subst (λ z. AssignsSame (Name q x NoMore (object_at s x).of) z) (sym named_is)
+          (view_assigns q x found.0 found.1 found.3 found.2 view_there (orderly.variables x (inl (inr (q, (object_at s x).of, e, is ∙ ap (λ z. Assign z e) target_is))) view_there) found.6
+          (subst (Source s (object_at s x).of) named_is (subst (λ z. Source s z e) (sym type) source)))))
+          (λ (r, k, more, call_is, gives). (λ plainly takes compares allowed keep.
+          subst (λ z. Same (Assign (Name q x NoMore (object_at s x).of) z)) (sym call_is)
+          (call_assigned_same t sees seeing ready.accepted.settled ready.owns other alone in_formals v ready.class.parts_named facts so only n agrees
+          q x r k (More (Name found.0 found.1 found.2 found.3) more) view_there))))
         where
           target_is : Name q x path u ≡ Name q x NoMore (object_at s x).of
           target_is = (λ j. Name q x (nothing j) (sym type j))
@@ -199,10 +198,9 @@ module _ (table : Table) (typed : TypedProgram) (effects : Effects) (input : Lis
               tt plainly tt two.1 two.2 compares.0 compares.1
               (subst (λ z. AllowsAll facts (acts z)) same allowed)
               (keep_both (is_fixed s sees) (acts (acts_in s e)) (acts (acts_in s path)) (subst Keep (acts_append (acts_in s e) (acts_in s path)) before)).0
-          by_view source_there true view = elim (leads_or s ready.class.parts_named path (object_at s x).of u leads) [
-            | inr own_type ↦ absurd (true_false (is_anonymous (full s.table u)) view (named_plain s.table u own_type))
-            | inl whole_path ↦ to_view q x path u e is whole_path.0 whole_path.1 source_there view plainly takes compares allowed keep
-          ]
+          by_view source_there true view = by_either (leads_or s ready.class.parts_named path (object_at s x).of u leads)
+              (λ whole_path. (to_view q x path u e is whole_path.0 whole_path.1 source_there view plainly takes compares allowed keep))
+              (λ own_type. (absurd (true_false (is_anonymous (full s.table u)) view (named_plain s.table u own_type))))
       assigns target e is (k, never, source) plainly takes compares allowed keep = absurd never
 
       -- Each instruction that is no call, but for returns and for ends of calls.

@@ -40,6 +40,7 @@ use Rattle.viewed_steps.proofs.Shown.{HasCells, then_cells, taken_cells, one_sta
 use Rattle.viewed_steps.proofs.Lodged.{cell_live}
 use Rattle.soundness.proofs.Steps.{no_leaf}
 use Rattle.recycled_runs.proofs.ViewedFacts.Constructors.{is_of_variable_base, is_value_passed}
+use Rattle.soundness.proofs.Parted.{by_either}
 
 same_object : (f y g x : ℕ) → memory.OfVariable f y ≡ memory.OfVariable g x → y ≡ x
 same_object f y g x e = cc
@@ -189,13 +190,9 @@ module _ (s : Typing) (sees : ℕ → Bool) (settled : IsSettled s.table) (own_l
               (λ z there. (cells_there c has).1 z (inr there)),
             ))
             (emptying.out_stand s sees settled own_law in_formals hands leaks depth v sight facts scope cells (outs_also other (out ∷ later)) (outs_also (away other to) later) x k to one m typed here new there_now found mine
-            (λ w o off. elim o [
-              | inl gone ↦ inl (inl gone)
-              | inr (other_one, has_one, under) ↦ elim has_one [
-                | inl first ↦ absurd (off (subst (λ (z : Out). Under z.way w) (sym first) under))
-                | inr rest ↦ inr (other_one, rest, under)
-              ]
-            ]) (λ p. inl (inr (p, refl))))
+            (λ w o off. by_either o
+            (λ gone. (inl (inl gone)))
+            (λ (other_one, has_one, under). (by_either has_one (λ first. (absurd (off (subst (λ (z : Out). Under z.way w) (sym first) under)))) (λ rest. (inr (other_one, rest, under)))))) (λ p. inl (inr (p, refl))))
             (λ y has p. emptying.out_blank s sees settled own_law in_formals hands leaks depth v sight facts scope cells (outs_also other (out ∷ later)) (outs_also (away other to) later) x k to one m typed here new there_now found
             y (differ y has) p (blank y (inr has) p))
             (λ o has. still_then s cells depth before m next o.way (still o (subst (λ z. Has z o) (sym same) (inr has)))

@@ -32,6 +32,7 @@ use Rattle.soundness.proofs.Contents.{bool_cases}
 use Rattle.soundness.proofs.Scalars.{acts}
 use Rattle.viewed_steps.specs.Sound.{IsCopiedBack}
 use Rattle.viewed_steps.proofs.Passed.{passed_unlent, passed_unmoved, first_apart, later_none}
+use Rattle.soundness.proofs.Parted.{by_either}
 
 -- ---- names
 
@@ -117,17 +118,12 @@ module _ (s : Typing) (facts : List Fact) where
       → IsCopiedBack s x → Spares known done (x ∷ formals) (More e rest) → Spares (effect (act.Actual w.name mode.Out owning access) known) (w.name ∷ done) formals rest
   spares_out x e w formals rest known done owning access is back old = record {
     lents = λ l h n has. effect_keeps (act.Actual w.name mode.Out owning access) (Lent l h n) known refl (old.lents l h n has);
-    moved = λ n has. elim (old.moved n has) [
-      | inr (k, there, covered) ↦ inr (k, inr there, covered)
-      | inl there ↦ elim (bool_cases (covers w.name n)) [
-        | inl covered ↦ inr (w.name, inl refl, covered)
-        | inr off ↦ inl (effect_keeps (act.Actual w.name mode.Out owning access) (Moved n) known off there)
-      ]
-    ];
-    apart = λ k has b there also over. elim has [
-      | inl same ↦ first_apart s x e w formals rest back is old.none b there also (subst (λ z. overlaps z b.actual.name ≡ true) (sym same) over)
-      | inr earlier ↦ old.apart k earlier b (Has-append_right (alias.passed_as x (written e)) (alias.passed formals rest) b there) also over
-    ];
+    moved = λ n has. by_either (old.moved n has)
+        (λ there. (by_either (bool_cases (covers w.name n)) (λ covered. (inr (w.name, inl refl, covered))) (λ off. (inl (effect_keeps (act.Actual w.name mode.Out owning access) (Moved n) known off there)))))
+        (λ (k, there, covered). (inr (k, inr there, covered)));
+    apart = λ k has b there also over. by_either has
+        (λ same. (first_apart s x e w formals rest back is old.none b there also (subst (λ z. overlaps z b.actual.name ≡ true) (sym same) over)))
+        (λ earlier. (old.apart k earlier b (Has-append_right (alias.passed_as x (written e)) (alias.passed formals rest) b there) also over));
     none = later_none s x e formals rest old.none;
   }
 
@@ -156,10 +152,8 @@ module _ (s : Typing) (facts : List Fact) where
       let mine : Allows known (act.Actual (ways.name_of w) mode.InOut owning access) =
       subst (λ z. Allows known (act.Actual z mode.InOut owning access)) (sym called) allowed in (
         λ l h n has over. passed_unlent known w owning access mine l h n (old.lents l h n has) over,
-        λ n has over. elim (old.moved n has) [
-          | inl there ↦ passed_unmoved known w owning access mine n there over
-          | inr (k, there, covered) ↦
-              old.apart k there (record { formal = x; actual = record { pos = p; name = name_of y path; of = u } }) (inl refl) back
-              (covers_on k n (name_of y path) covered (subst (λ z. overlaps n z ≡ true) called over))
-        ],
+        λ n has over. by_either (old.moved n has)
+            (λ there. (passed_unmoved known w owning access mine n there over))
+            (λ (k, there, covered). (old.apart k there (record { formal = x; actual = record { pos = p; name = name_of y path; of = u } }) (inl refl) back
+            (covers_on k n (name_of y path) covered (subst (λ z. overlaps n z ≡ true) called over)))),
       )

@@ -94,6 +94,7 @@ use Rattle.viewed_steps.proofs.Sees.{sees_seeing}
 use Rattle.recycled_runs.proofs.ViewedFacts.Constructors.{is_call_instruction, is_finish_instruction, is_hold_instruction}
 use Rattle.viewed_steps.proofs.InnerFrame.{InnerFrame}
 use Rattle.viewed_steps.proofs.Constructors.{is_end_scope_instruction}
+use Rattle.soundness.proofs.Parted.{by_either}
 
 -- whether the scope of an object ends
 end_or : (i : Instruction) → ((x : ℕ) × (i ≡ EndScope x)) ⊎ ((x : ℕ) → i ≡ EndScope x → ⊥)
@@ -436,10 +437,7 @@ module _ (table : Table) (typed : TypedProgram) (effects : Effects) (input : Lis
               copies_these (start (twin main_turn n)) (agrees, refl, only))
 
         same_there : SameBy (passings s (sub_at s k)) formals actuals
-        same_there = elim (acting.traverses_or table typed effects input ready inner k actuals result e) [
-          | inl none ↦ plain_same none
-          | inr (f, traversed) ↦ traversal_same f traversed
-        ]
+        same_there = by_either (acting.traverses_or table typed effects input ready inner k actuals result e) (λ none. (plain_same none)) (λ (f, traversed). (traversal_same f traversed))
 
         whole_there : (passed : List Passed) → Given passed → AreWhollyPassed s (suc (suc (length inner.rest))) formals passed inner.state.memory
         whole_there passed given =
@@ -504,20 +502,17 @@ module _ (table : Table) (typed : TypedProgram) (effects : Effects) (input : Lis
     main_same =
         both_are main_turn _ _ _ _ (standing.step_is table typed effects input ready inner.state inner.top older outer inner.named inner.p inner.frames inner.of_sub inner.at_point)
         (standing.step_is table typed effects input ready (record inner.state { memory = n }) inner.top older outer inner.named inner.p inner.frames inner.of_sub inner.at_point)
-        (elim (finish_or inner.p.instr) [
-          | inl is ↦ subst Goal (sym is) (finish_same main_turn n agrees (ends_whole is) only inner.below.stage.frame inner.rest refl)
-          | inr end ↦ elim (end_or inner.p.instr) [
-            | inl (y, is) ↦ subst Goal (sym is) (end_scope_same main_turn n agrees only y)
-            | inr going ↦ elim (call_or inner.p.instr) [
-              | inr no_call ↦ elim (innermost.taken_there table typed effects input ready inner no_call) [
-                | inl plain ↦ goes_plainly going plain no_call end
-                | inr (inl by_itself) ↦ taken_values.goes_alone table typed effects input ready compared inner only n agrees going no_call end by_itself
-                | inr (inr together) ↦ taken_values.goes_together table typed effects input ready compared inner only n agrees going no_call end together
-              ]
-              | inl call ↦ subst Goal (sym call.3) (calls_it going call.0 call.1 call.2 call.3)
-            ]
-          ]
-        ])
+        (by_either (finish_or inner.p.instr)
+        (λ is. (subst Goal (sym is) (finish_same main_turn n agrees (ends_whole is) only inner.below.stage.frame inner.rest refl)))
+        (λ end. (by_either (end_or inner.p.instr)
+        (λ (y, is). (subst Goal (sym is) (end_scope_same main_turn n agrees only y)))
+        (λ going. (by_either (call_or inner.p.instr)
+        (λ call. (subst Goal (sym call.3) (calls_it going call.0 call.1 call.2 call.3)))
+        (λ no_call. (elim (innermost.taken_there table typed effects input ready inner no_call) [
+          | inl plain ↦ goes_plainly going plain no_call end
+          | inr (inl by_itself) ↦ taken_values.goes_alone table typed effects input ready compared inner only n agrees going no_call end by_itself
+          | inr (inr together) ↦ taken_values.goes_together table typed effects input ready compared inner only n agrees going no_call end together
+        ])))))))
 
   -- ---- each step
 
