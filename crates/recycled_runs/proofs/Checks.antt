@@ -51,6 +51,7 @@ use Rattle.handled_kinds.specs.Kinds.{HasKinds}
 use Rattle.handled_kinds.specs.Stacks.{stack_kinds, EndsWithPackages, AreBased}
 use Rattle.handled_kinds.proofs.Stacks.{stack_has, taken_has}
 use Rattle.recycled_runs.proofs.Parted.{is_given}
+use Rattle.soundness.proofs.Parted.{not_empty}
 
 -- ---- instructions
 
@@ -256,7 +257,7 @@ module _ (program : FlowProgram) (p : Program) (input : List ℕ) (lowered : IsL
       by : (fs : List machine.Frame) (gs : List Frame) → t.frames ≡ fs → FramesStand program stands.laid (types t.memory) g.memory.stack fs gs → FirstRuns program fs
           → EndsWithPackages (map (λ (f : machine.Frame). f.sub) fs) → here ≡ stack_kinds all p (map (λ (f : machine.Frame). f.sub) fs) → AreBased all p (map (λ (f : machine.Frame). f.sub) fs) gs
           → gs ≡ f ∷ outer → LeaksThere (turn_of all p input g f outer q) q.does
-      by [] [] these stand runs ends kinds based is = cc
+      by [] [] these stand runs ends kinds based is = absurd (not_empty (sym is))
       by [] (h ∷ gs) these stand runs ends kinds based is = absurd stand
       by (m ∷ fs) [] these stand runs ends kinds based is = absurd stand
       by (m ∷ fs) (h ∷ gs) these stand runs ends kinds based is =

@@ -1,5 +1,5 @@
 -- Nothing is gone as a step begins.
-use Rattle.std.proofs.Common.{◌≡◌, refl, sym, ap, ◌∙◌, subst, ℕ, zero, suc, ◌-◌, Bool, true, false, List, [], ◌∷◌, ◌++◌, map, flat_map, reverse, length, take, nat_lt, slice_get, Some, ℤ, pos, negsuc, if◌then◌else◌}
+use Rattle.std.proofs.Common.{◌≡◌, refl, sym, ap, ◌∙◌, subst, ℕ, zero, suc, ◌-◌, Bool, true, false, List, [], ◌∷◌, ◌++◌, map, flat_map, reverse, length, take, nat_lt, slice_get, Some, ℤ, pos, negsuc, if◌then◌else◌, arith}
 use Rattle.std.proofs.lemmas.List.{reverse-append}
 use Rattle.std.proofs.lemmas.Bool.{false≢true}
 use Rattle.std.specs.Prelude.{is_some}
@@ -28,6 +28,7 @@ use Rattle.handled_steps.specs.Alike.{frame_kinds}
 use Rattle.handled_steps.specs.Clear.{cleared_word, cleared_words, cleared_value, cleared_cell, cleared_flat}
 use Rattle.handled_steps.specs.Looks.{turn_of, taken_kinds}
 use Rattle.handled_steps.proofs.Tables.{template_numbers}
+use Rattle.soundness.proofs.Parted.{some_same}
 
 -- Neither in the stack nor in a cell.
 abbrev pub NoneGone : List Kind → Flat → Type 0
@@ -37,9 +38,9 @@ NoneGone here m = AreKept here m.stack × ((n : ℕ) (c : Cell) → slice_get m.
 
 pub kept_on : (ks js : List Kind) (zs ws : List ℤ) → length ks ≡ length zs → AreKept ks zs → AreKept js ws → AreKept (ks ++ js) (zs ++ ws)
 kept_on [] js [] ws long first second = second
-kept_on [] js (z ∷ zs) ws long first second = cc
-kept_on (k ∷ ks) js [] ws long first second = cc
-kept_on (k ∷ ks) js (z ∷ zs) ws long first second = (first.0, kept_on ks js zs ws (let same : length ks ≡ length zs = cc in same) first.1 second)
+kept_on [] js (z ∷ zs) ws long first second = absurd (omega (arith, long))
+kept_on (k ∷ ks) js [] ws long first second = absurd (omega (arith, long))
+kept_on (k ∷ ks) js (z ∷ zs) ws long first second = (first.0, kept_on ks js zs ws (omega (arith, long)) first.1 second)
 
 -- ---- words that are cleared
 
@@ -73,7 +74,7 @@ values_kept (v ∷ vs) = (value_kept v, values_kept vs)
 
 cells_kept : (cells : List Cell) (n : ℕ) (c : Cell) → slice_get (map cleared_cell cells) n ≡ Some c → AreKept (map kind c.words) (words_in c.words)
 cells_kept [] n c is = absurd (false≢true (ap is_some is))
-cells_kept (k ∷ cells) zero c is = subst (λ (x : Cell). AreKept (map kind x.words) (words_in x.words)) (let same : cleared_cell k ≡ c = cc in same) (values_kept k.words)
+cells_kept (k ∷ cells) zero c is = subst (λ (x : Cell). AreKept (map kind x.words) (words_in x.words)) (some_same is) (values_kept k.words)
 cells_kept (k ∷ cells) (suc n) c is = cells_kept cells n c is
 
 pub cleared_kept : (here : List Kind) (m : Flat) → NoneGone here (cleared_flat here m)

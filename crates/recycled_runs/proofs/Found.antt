@@ -42,6 +42,7 @@ use Rattle.handled_steps.specs.Looks.{turn_of}
 use Rattle.recycled_runs.proofs.Keeps.{IsNull, kept_null}
 use Rattle.recycled_runs.proofs.Walks.{GoesThrough, IsLive, IsCellBase, place_found}
 use Rattle.recycled_runs.proofs.Parts.{type_of, part_leaked}
+use Rattle.soundness.proofs.Parted.{base_objects, some_same}
 
 -- ---- lists
 
@@ -107,7 +108,7 @@ module _ (e : Seen) (is : IsSeen e) where
       })
     where
       one : {A : Type 0} (a b : A) → Some a ≡ Some b → a ≡ b
-      one a b e = cc
+      one a b e = some_same e
 
 -- ---- a step
 
@@ -197,7 +198,7 @@ module _ (program : FlowProgram) (has : HasTypes program) (settled : IsSettled (
       owns (OfVariable frame z) live (inr own) = ap not (ap (is_view_formal typed) (object_same frame own.0 z y own.1) ∙ own.2)
         where
           object_same : (a b x y : ℕ) → OfVariable a x ≡ OfVariable b y → x ≡ y
-          object_same a b x y e = cc
+          object_same a b x y e = base_objects e
       owns (OfCell n) live own = ap not ((cell_agree s.memory t.memory same.1 n).1 ∙ live)
 
       leaked_at : (w : Spot) → SpotSame e (k + waiting (Name name y path u)) r.of ev (Given w)

@@ -1,5 +1,5 @@
 -- What leak checks tell of is there also after values were moved and made, where it was there before.
-use Rattle.std.proofs.Common.{◌≡◌, refl, sym, ap, ◌∙◌, subst, ℕ, zero, suc, ◌≤◌, Bool, true, false, List, [], ◌∷◌, drop, length, get_or, slice_get, Some, ℤ, pos, negsuc, if◌then◌else◌}
+use Rattle.std.proofs.Common.{◌≡◌, refl, sym, ap, ◌∙◌, subst, ℕ, zero, suc, ◌≤◌, Bool, true, false, List, [], ◌∷◌, drop, length, get_or, slice_get, Some, ℤ, pos, negsuc, if◌then◌else◌, arith}
 use Rattle.machine.specs.type_definitions.Types.{Table}
 use Rattle.kept_cells.specs.run_values.declared.value.Value.{Value}
 use Rattle.kept_cells.specs.run_values.declared.value.Kind.{Kind}
@@ -19,6 +19,10 @@ use Rattle.handled_runs.proofs.Standing.{front_long}
 use Rattle.handled_runs.proofs.Unmarked.{spot_same, words_fresh, fresh_long}
 use Rattle.recycled_runs.proofs.More.{Less, Grows, slice_more, spot_less, words_less}
 use Rattle.recycled_runs.proofs.Growing.{Grown}
+use Rattle.soundness.proofs.Parted.{some_same}
+use Rattle.std.proofs.lemmas.Bool.{false≢true}
+use Rattle.recycled_runs.proofs.Parted.{is_given}
+use Rattle.std.specs.Prelude.{is_some}
 
 given_same : {A : Type 0} (a b : A) → Given a ≡ Given b → a ≡ b
 given_same a b e = cc
@@ -26,10 +30,10 @@ given_same a b e = cc
 -- ---- cells
 
 cell_on : (cs ds : List Cell) (n : ℕ) (ws : List Value) → CellsUnmarked cs ds → IsThere cs n ws → (us : List Value) × IsThere ds n us
-cell_on [] ds n ws are there = cc
+cell_on [] ds n ws are there = absurd (false≢true (ap is_some there))
 cell_on (c ∷ cs) [] n ws are there = absurd are
 cell_on (c ∷ cs) (d ∷ ds) zero ws are there =
-    let same : c ≡ record { words = ws; freed = false } = cc in
+    let same : c ≡ record { words = ws; freed = false } = some_same there in
     (d.words, ap (λ b. Some (record { words = d.words; freed = b })) (sym are.0 ∙ ap (λ (k : Cell). k.freed) same))
 cell_on (c ∷ cs) (d ∷ ds) (suc n) ws are there = cell_on cs ds n ws are.2 there
 
@@ -42,15 +46,15 @@ module _ (x w m : Flat) (here : List Kind) (grows : Grows x w) (un : IsUnmarked 
 
   fresh_at : (ks : List Kind) (us : List ℤ) (o n : ℕ) → length ks ≡ length us → get_or us o (pos 0) ≡ pos (suc n) → get_or (all_fresh ks us) o (pos 0) ≡ pos (suc n)
   fresh_at [] [] o n long is = is
-  fresh_at [] (u ∷ us) o n long is = cc
-  fresh_at (k ∷ ks) [] o n long is = cc
+  fresh_at [] (u ∷ us) o n long is = absurd (omega (arith, long))
+  fresh_at (k ∷ ks) [] o n long is = absurd (omega (arith, long))
   fresh_at (k ∷ ks) (u ∷ us) zero n long is = subst (λ z. as_fresh k z ≡ pos (suc n)) (sym is) (one k)
     where
       one : (k : Kind) → as_fresh k (pos (suc n)) ≡ pos (suc n)
       one sort.Int = refl
       one sort.Enum = refl
       one sort.Access = refl
-  fresh_at (k ∷ ks) (u ∷ us) (suc o) n long is = fresh_at ks us o n (let same : length ks ≡ length us = cc in same) is
+  fresh_at (k ∷ ks) (u ∷ us) (suc o) n long is = fresh_at ks us o n (omega (arith, long)) is
 
   all_on : (ks : List Kind) (us : List ℤ) (offsets : List ℕ) → length ks ≡ length us → AreLeaked x.cells (all_fresh ks us) offsets → AreLeaked m.cells us offsets
   all_on ks us [] long are = tt
@@ -69,7 +73,7 @@ words_long m (InCell n o) ks us e =
   where
     by : (b : Bool) (ws : List Value) → (if b then flat.front ks (drop o (words_in ws)) else Broken) ≡ Given us → length ks ≡ length us
     by true ws f = front_long ks (drop o (words_in ws)) us f
-    by false ws f = cc
+    by false ws f = absurd (false≢true (ap is_given f))
 
 -- ---- the law
 
@@ -86,7 +90,7 @@ module _ (table : Table) (here taken : List Kind) (x : Flat) (kept : AreKept tak
 
       by : (g : Got Spot) → spot x p ≡ g → Less g (spot grown.whole p) → spot x p ≡ Given q
       by (Given r) is less = is ∙ (sym less ∙ there)
-      by (Stops s) is less = (let no : Stops s ≡ Given q = sym less ∙ there in cc)
+      by (Stops s) is less = absurd (false≢true (ap is_given (sym less ∙ there)))
       by Broken is less = absurd (whole is)
 
   pub stand_then : (q : Spot) (ks : List Kind) → StandAt x here q ks → StandAt n here q ks

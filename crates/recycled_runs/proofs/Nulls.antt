@@ -36,6 +36,7 @@ use Rattle.handled_steps.specs.Clear.{cleared, cleared_word, cleared_words, clea
 use Rattle.handled_steps.proofs.Cleared.{words_long}
 use Rattle.handled_kinds.specs.Stacks.{HasRows, subs_of, IsStacked}
 use Rattle.handled_kinds.proofs.Stacks.{counter, lying_front, looping_front}
+use Rattle.soundness.proofs.Parted.{some_same}
 
 -- ---- one value
 
@@ -170,7 +171,7 @@ kinds_front (s ∷ all) (v ∷ vs) are = (sym are.0, kinds_front all vs are.1)
 
 got_clear : (cells : List Cell) (n : ℕ) (k : Cell) → slice_get cells n ≡ Some k → slice_get (map cleared_cell cells) n ≡ Some (cleared_cell k)
 got_clear [] n k is = absurd (false≢true (ap is_some is))
-got_clear (c ∷ cells) zero k is = ap Some (ap cleared_cell (let same : c ≡ k = cc in same))
+got_clear (c ∷ cells) zero k is = ap Some (ap cleared_cell (some_same is))
 got_clear (c ∷ cells) (suc n) k is = got_clear cells n k is
 
 cell_stands : (table : Table) (made : List ℕ) (c : HeapCell) (k : Cell) → ((o : ℕ) → IsGone c.slots o → (d : ℕ) × (slice_get (sorts table c.of) o ≡ Some (Pointer d)))
@@ -192,9 +193,9 @@ drop_clear zero [] zs long = refl
 drop_clear zero (k ∷ ks) [] long = refl
 drop_clear zero (k ∷ ks) (z ∷ zs) long = refl
 drop_clear (suc n) [] [] long = refl
-drop_clear (suc n) [] (z ∷ zs) long = cc
-drop_clear (suc n) (k ∷ ks) [] long = cc
-drop_clear (suc n) (k ∷ ks) (z ∷ zs) long = drop_clear n ks zs (let same : length ks ≡ length zs = cc in same)
+drop_clear (suc n) [] (z ∷ zs) long = absurd (omega (arith, long))
+drop_clear (suc n) (k ∷ ks) [] long = absurd (omega (arith, long))
+drop_clear (suc n) (k ∷ ks) (z ∷ zs) long = drop_clear n ks zs (omega (arith, long))
 
 int_word : (k : Kind) (z : ℤ) → sort.Int ≡ k → cleared_word k z ≡ z
 int_word k z is = subst (λ k. cleared_word k z ≡ z) is refl

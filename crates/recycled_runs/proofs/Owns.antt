@@ -42,6 +42,7 @@ use Rattle.recycled_runs.proofs.Targets.{IsOwnName, IsNameOf, IsOwnActual, AreOw
 use Rattle.recycled_runs.proofs.Checks.{IsOwnIn, OwnsNames}
 use Rattle.viewed_steps.specs.Seeing.{sees_in}
 use Rattle.soundness.proofs.Parted.{by_either}
+use Rattle.soundness.proofs.Constructors.{is_access_shape}
 
 -- ---- lists
 
@@ -101,7 +102,7 @@ begins_through s y u (IntoComponent i rest) access leads more = let less = leads
 begins_through s y u (Element index low high rest) access leads more = absurd (no access.0 access.1 access.2 leads.0 low high (sym access.3 ∙ leads.1))
   where
     no : (d : ℕ) (c n : Bool) (e : ℕ) (low high : _) → shape.Access d c n ≡ shape.Elements low high e → ⊥
-    no d c n e low high same = cc
+    no d c n e low high same = true≢false (ap is_access_shape same)
 begins_through s y u NoMore access leads more = absurd (more refl)
 begins_through s y u path access leads more = absurd leads
 

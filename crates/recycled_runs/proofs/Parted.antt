@@ -37,3 +37,6 @@ evaluated_values e = cc
 
 pub goes_states : {s t : states.State} → states.Goes s ≡ states.Goes t → s ≡ t
 goes_states e = cc
+
+pub evaluated_nows : {A : Type 0} {a b : A} {m n : machine.Now} → ◌≡◌ {A = machine.Evaluated A} (machine.Done a m) (machine.Done b n) → m ≡ n
+evaluated_nows e = cc

@@ -58,6 +58,8 @@ use Rattle.recycled_runs.proofs.Tops.{marks, count}
 use Rattle.recycled_runs.proofs.Rising.{TopsBy, HasRoom, machine_tops, SamePeaks, counts_same, still_under, ends_alike}
 use Rattle.recycled_runs.proofs.Rising.{goes_same as peaks_same}
 use Rattle.recycled_runs.proofs.Starts.{start_peaks, start_under, start_only, start_words, start_seen, start_none, starts_stacked}
+use Rattle.soundness.proofs.Parted.{not_empty}
+use Rattle.viewed_steps.proofs.Parted.{list_first}
 
 -- ---- what runs of the machine give
 
@@ -220,11 +222,11 @@ module _ (program : FlowProgram) (p : Program) (input : List ℕ) (has : HasType
 
     starts_clear : (fs : List machine.Frame) (gs : List Frame) → FramesStand program in_step.stands.laid (types t.memory) g.memory.stack fs gs → (f : Frame) (outer : List Frame) (q : Point) → gs ≡ f ∷ outer
         → IsClear here (taken_kinds (turn_of table p input g f outer q)) (points.start (turn_of table p input g f outer q))
-    starts_clear [] [] stand f outer q is = cc
+    starts_clear [] [] stand f outer q is = absurd (not_empty (sym is))
     starts_clear [] (h ∷ gs) stand f outer q is = absurd stand
     starts_clear (m ∷ fs) [] stand f outer q is = absurd stand
     starts_clear (m ∷ fs) (h ∷ gs) stand f outer q is =
-        clear_start table p input g f outer q here (types t.memory) m.waits (subst (λ (x : Frame). WaitsStand table (types t.memory) m.waits x.waits) (let one : h ≡ f = cc in one) stand.0.waits) in_step.none
+        clear_start table p input g f outer q here (types t.memory) m.waits (subst (λ (x : Frame). WaitsStand table (types t.memory) m.waits x.waits) (list_first is) stand.0.waits) in_step.none
 
     looks : LooksStep table p input g here g.frames
     looks =

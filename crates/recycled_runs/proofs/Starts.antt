@@ -1,6 +1,6 @@
 -- What stands before the first step.
 use Rattle.std.proofs.Common.{◌≡◌, refl, sym, ap, ◌∙◌, subst, ℕ, zero, suc, ◌+◌, arith, Bool, true, false, nat_lt, List, [], ◌∷◌, ◌++◌, length, get_or, sum, Option, Some, None}
-use Rattle.std.proofs.lemmas.Bool.{true≢false}
+use Rattle.std.proofs.lemmas.Bool.{true≢false, false≢true}
 use Rattle.machine.specs.type_definitions.Types.{Table}
 use Rattle.machine.specs.flow_paths.Objects.{object_at}
 use Rattle.machine.specs.flow_paths.Points.{FlowPoint}
@@ -26,6 +26,7 @@ use Rattle.handled_kinds.specs.Stacks.{subs_of, IsStacked}
 use Rattle.recycled_runs.proofs.Machine.{all_subs}
 use Rattle.recycled_runs.proofs.Frames.{frame_long}
 use Rattle.recycled_runs.proofs.Clear.{NoneGone, kept_on, template_kept}
+use Rattle.std.specs.Prelude.{is_some}
 
 -- ---- the machine's memory
 
@@ -38,8 +39,8 @@ start_only program = (
     owners : (b : Base) → OwnersGone (flow_typing program).table (content (flow_typing program) empty_memory [] (loc_of b))
     owners (OfVariable f x) o gone =
         (let no : true ≡ false = sym gone ∙ fresh_whole (default (flow_typing program).table (object_at (flow_typing program) x).of) o in absurd (true≢false no))
-    owners (OfCell zero) o gone = cc
-    owners (OfCell (suc k)) o gone = cc
+    owners (OfCell zero) o gone = absurd (false≢true gone)
+    owners (OfCell (suc k)) o gone = absurd (false≢true gone)
 
 -- ---- the counts of words
 
@@ -72,15 +73,15 @@ start_seen program p false = by p.main
 -- ---- frames without a value
 
 pub start_none : (table : Table) (p : Program) (declares : Bool) → NoneGone (first_kinds table p declares) (points.state_at_start table p declares).memory
-start_none table p true = (template_kept table (sub_at p 0), λ n c is. cc)
+start_none table p true = (template_kept table (sub_at p 0), λ n c is. absurd (false≢true (ap is_some is)))
 start_none table p false = by p.main
   where
     by : (main : Option ℕ) → NoneGone (main_kinds table p (frame_kinds table (sub_at p 0)) main) (points.state_at_start table (record p { main = main }) false).memory
-    by None = (template_kept table (sub_at p 0), λ n c is. cc)
+    by None = (template_kept table (sub_at p 0), λ n c is. absurd (false≢true (ap is_some is)))
     by (Some main) = (
       kept_on (frame_kinds table (sub_at p 0)) (frame_kinds table (sub_at p main)) (points.template table (sub_at p 0)) (points.template table (sub_at p main))
           (sym (frame_long table (sub_at p 0))) (template_kept table (sub_at p 0)) (template_kept table (sub_at p main)),
-      λ n c is. cc,
+      λ n c is. absurd (false≢true (ap is_some is)),
     )
 
 -- ---- the frames

@@ -31,6 +31,8 @@ use Rattle.recycled_runs.proofs.Plain.{IsPlain, IsAlone, plain}
 use Rattle.recycled_runs.proofs.Machine.{all_subs, AreSame, StaysIn, CallsIn, LeavesTo, alone_stays, call_stays, finish_leaves}
 use Rattle.recycled_runs.proofs.Frames.{plain_based, call_based, finish_based}
 use Rattle.soundness.proofs.Parted.{some_same}
+use Rattle.std.proofs.lemmas.Bool.{false≢true}
+use Rattle.recycled_runs.proofs.Parted.{is_going}
 
 -- ---- what an instruction is
 
@@ -128,7 +130,7 @@ module _ (t : points.Turn) (ns : List ℕ) where
 -- ---- lists of the same length
 
 some_main : (x : Option ℕ) (a b : ℕ) → x ≡ Some a → x ≡ Some b → a ≡ b
-some_main x a b e f = let same : Some a ≡ Some b = sym e ∙ f in cc
+some_main x a b e f = some_same (sym e ∙ f)
 
 never : (n : ℕ) → n ≡ suc n → ⊥
 never n e = omega (arith, e)
@@ -162,7 +164,7 @@ based_long table p (n ∷ ns) (g ∷ gs) based = ap suc (based_long table p ns g
 
 then_turned : (t : points.Turn) (b : Bool) (x : Outcome) (next : State) → points.are_taken t ≡ b → (if b then x else points.Wants) ≡ Goes next → (points.are_taken t ≡ true) × (x ≡ Goes next)
 then_turned t true x next is e = (is, e)
-then_turned t false x next is e = cc
+then_turned t false x next is e = absurd (false≢true (ap is_going e))
 
 -- ---- the law
 

@@ -35,6 +35,7 @@ use Rattle.run_points.proofs.Spotted.{type_is, spot_later}
 use Rattle.recycled_runs.proofs.Tops.{marks, count, AreTyped, have_typed}
 use Rattle.numbered_cells.specs.Peaks.{peak_of}
 use Rattle.recycled_runs.proofs.TopSteps.{StoresAt}
+use Rattle.recycled_runs.proofs.Parted.{evaluated_nows}
 
 -- ---- evaluations that stop
 
@@ -110,7 +111,7 @@ module _ (b : Turns) (laid : Laid) (is : TurnStands b laid) where
       by (Done p m) same = (p, ap (λ n. Done p n) (now_same (record { words = ws; place = p }) s m k same))
         where
           now_same : (a b : Stored) (m k : Now) → Done a m ≡ Done b k → m ≡ k
-          now_same a b m k same = cc
+          now_same a b m k same = evaluated_nows same
       by (Raises x m) same = absurd (no_raise s k m x same)
       by (Traps x m) same = absurd (no_trap s k m x same)
 

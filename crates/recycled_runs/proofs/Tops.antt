@@ -18,6 +18,7 @@ use Rattle.run_codes.specs.Related.{HaveCells}
 use Rattle.run_points.proofs.Flags.{Anywhere}
 use Rattle.run_points.proofs.Keeping.{IsKeeping}
 use Rattle.handled_steps.specs.Rises.{top}
+use Rattle.soundness.proofs.Parted.{not_empty}
 
 -- ---- sizes and flags of cells
 
@@ -92,7 +93,7 @@ firsts_new (k ∷ sizes) = ap (λ rest. k ∷ rest) (firsts_new sizes)
 
 later_words : (old cells : List HeapCell) (more : List ℕ) → marks cells ≡ marks old ++ new_marks more → map cell_words (drop (length old) cells) ≡ more
 later_words [] cells more e = sym (firsts_marks cells) ∙ (ap (map (λ (k : ℕ × Bool). k.0)) e ∙ firsts_new more)
-later_words (o ∷ old) [] more e = cc
+later_words (o ∷ old) [] more e = absurd (not_empty (sym e))
 later_words (o ∷ old) (c ∷ cells) more e = later_words old cells more (ap (drop 1) e)
 
 freed_words : (cells : List HeapCell) → map cell_words (map as_freed cells) ≡ map cell_words cells

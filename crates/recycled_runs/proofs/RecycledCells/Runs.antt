@@ -56,18 +56,20 @@ use Rattle.recycled_runs.proofs.RecycledCells.Ended.{CopiesNone, StepLeaves, ste
 use Rattle.recycled_runs.proofs.RecycledCells.Kept.{Leaves}
 use Rattle.recycled_runs.proofs.RecycledCells.Kept as kept
 use Rattle.recycled_runs.proofs.RecycledCells.Standing.{has_cells, agree_cells, left_cells}
+use Rattle.soundness.proofs.Parted.{not_empty}
+use Rattle.viewed_steps.proofs.Parted.{list_first}
 
 -- ---- what is copied back
 
 no_returns : (c : Site) (all : List Lying) (d : ℕ) (made : List ℕ) (rs : List machine.Return) (qs : List Return) → rs ≡ [] → ReturnsStand c all d made rs qs → qs ≡ []
 no_returns c all d made [] [] none is = refl
 no_returns c all d made [] (q ∷ qs) none is = absurd is
-no_returns c all d made (r ∷ rs) qs none is = cc
+no_returns c all d made (r ∷ rs) qs none is = absurd (not_empty none)
 
 none_paired : {A : Type 0} (R : A → A → Type 0) (xs ys : List A) → xs ≡ [] → Paired R xs ys → ys ≡ []
 none_paired R [] [] none is = refl
 none_paired R [] (y ∷ ys) none is = absurd is
-none_paired R (x ∷ xs) ys none is = cc
+none_paired R (x ∷ xs) ys none is = absurd (not_empty none)
 
 copies_none : (program : FlowProgram) (laid : Laid) (made : List ℕ) (stack : List ℤ) (table : Table) (handles : List ℕ) (fs : List machine.Frame) (gs bs : List Frame)
     → FramesStand program laid made stack fs gs → Paired (FrameAlike table handles) gs bs → CopiesNone fs → kept.CopiesNone bs
@@ -190,11 +192,11 @@ module _ (program : FlowProgram) (p : Program) (input : List ℕ) (has : HasType
 
     starts_clear : (fs : List machine.Frame) (gs : List Frame) → FramesStand program in_step.stands.laid (types t.memory) g.memory.stack fs gs → (f : Frame) (outer : List Frame) (q : Point) → gs ≡ f ∷ outer
         → IsClear here (taken_kinds (turn_of table p input g f outer q)) (points.start (turn_of table p input g f outer q))
-    starts_clear [] [] stand f outer q is = cc
+    starts_clear [] [] stand f outer q is = absurd (not_empty (sym is))
     starts_clear [] (h ∷ gs) stand f outer q is = absurd stand
     starts_clear (m ∷ fs) [] stand f outer q is = absurd stand
     starts_clear (m ∷ fs) (h ∷ gs) stand f outer q is =
-        clear_start table p input g f outer q here (types t.memory) m.waits (subst (λ (x : Frame). WaitsStand table (types t.memory) m.waits x.waits) (let one : h ≡ f = cc in one) stand.0.waits) in_step.none
+        clear_start table p input g f outer q here (types t.memory) m.waits (subst (λ (x : Frame). WaitsStand table (types t.memory) m.waits x.waits) (list_first is) stand.0.waits) in_step.none
 
     looks : LooksStep table p input g here g.frames
     looks =

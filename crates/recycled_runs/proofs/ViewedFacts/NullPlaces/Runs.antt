@@ -1,6 +1,6 @@
 -- A run with null in moved places gives the same, if the steps of its states do.
 use Rattle.std.proofs.Common.{◌≡◌, refl, sym, ap, ◌∙◌, subst, ℕ, zero, suc, Bool, true, false, List, [], ◌∷◌, nat_le, if◌then◌else◌}
-use Rattle.std.proofs.lemmas.Bool.{true≢false}
+use Rattle.std.proofs.lemmas.Bool.{true≢false, false≢true}
 use Rattle.machine.specs.flow_paths.Objects.{Typing, object_at}
 use Rattle.machine.specs.flow_paths.Laid.{FlowProgram, flow_typing}
 use Rattle.machine.specs.Words.{default}
@@ -103,8 +103,8 @@ module _ (program : FlowProgram) (input : List ℕ) (sound : State → Type 0)
       each : (b : Base) → OwnersGone (flow_typing program).table (content (flow_typing program) empty_memory [] (loc_of b))
       each (OfVariable f x) o gone =
           (let no : true ≡ false = sym gone ∙ fresh_whole (default (flow_typing program).table (object_at (flow_typing program) x).of) o in absurd (true≢false no))
-      each (OfCell zero) o gone = cc
-      each (OfCell (suc k)) o gone = cc
+      each (OfCell zero) o gone = absurd (false≢true gone)
+      each (OfCell (suc k)) o gone = absurd (false≢true gone)
 
       none : OnlyOwners (flow_typing program) empty_memory
       none = (

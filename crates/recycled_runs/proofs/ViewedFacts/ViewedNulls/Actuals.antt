@@ -78,15 +78,15 @@ use Rattle.soundness.proofs.ViewedSoundness.Outcomes.{named_plain}
 use Rattle.soundness.specs.Ready.{root_of}
 use Rattle.machine.specs.typed_tree.Trees as typed
 use Rattle.recycled_runs.proofs.ViewedFacts.Constructors.{is_in_mode}
-use Rattle.soundness.proofs.Parted.{by_either}
+use Rattle.soundness.proofs.Parted.{by_either, not_empty}
 
 -- A name that goes through an access value has steps.
 some_selectors : (s : Typing) (t u : ℕ) (path : TypedTree) → Leads s t path u → goes_through_none path ≡ false → selectors path ≡ [] → ⊥
 unfolding goes_through_none selectors Leads
 some_selectors s t u typed.NoMore leads some none = true≢false some
-some_selectors s t u (typed.Component i rest) leads some none = cc
-some_selectors s t u (typed.Element index low high rest) leads some none = cc
-some_selectors s t u (typed.Designated rest) leads some none = cc
+some_selectors s t u (typed.Component i rest) leads some none = not_empty none
+some_selectors s t u (typed.Element index low high rest) leads some none = not_empty none
+some_selectors s t u (typed.Designated rest) leads some none = not_empty none
 some_selectors s t u path never some none = absurd never
 
 -- A name that goes through no access value to a place of no anonymous type is that of no view.
