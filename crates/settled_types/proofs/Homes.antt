@@ -6,6 +6,7 @@ use Rattle.machine.specs.type_definitions.Names.{Context}
 use Rattle.machine.specs.type_definitions.Gathered.{gather, each, with_entry, with_indication, with_object, constant_value, with_number, initial_value, with_formal, with_formal_group, with_formals, with_result, with_front, with_body_front, with_literals, with_definition, full_info, with_type, is_subprogram, front_number, in_subprogram, declared_number, plain_object, parameter_type}
 use Rattle.machine.specs.type_definitions.declared.table.Entry.TheVariants as entry
 use Rattle.machine.specs.type_definitions.declared.table.Kind.TheVariants as kind
+use Rattle.settled_types.proofs.Cases.{definition_end, each_end, formals_end, front_end, group_end, indication_end, on_access, on_enumeration, on_front, on_group, on_more, result_end}
 use Rattle.settled_types.specs.Orderly.{Past, past_after}
 
 abbrev pub AtHome : Past → Context → Type 0
@@ -13,29 +14,40 @@ AtHome p c = p.in_package ≡ true → is_some c.home ≡ true
 
 each_home : (f : Code → Context → Context) → ((a : Code) (c : Context) → (f a c).home ≡ c.home) → (code : Code) (c : Context)
     → (each f code c).home ≡ c.home
-each_home f same (More a rest) c = each_home f same rest (f a c) ∙ same a c
-each_home f same _ c = refl
+each_home f same = on_more (λ code. (c : Context) → (each f code c).home ≡ c.home)
+    (λ a rest next c.
+    next (f a c) ∙ same a c)
+    (λ code other c. rw (each_end f code c other) (refl))
 
 indication_home : (d : ℕ) (i : Code) (c : Context) → (with_indication d i c).home ≡ c.home
-indication_home d (Anonymous p constant m) c = refl
-indication_home d _ c = refl
+indication_home d = on_access (λ i. (c : Context) → (with_indication d i c).home ≡ c.home)
+    (λ p constant m c.
+    refl)
+    (λ i other c. rw (indication_end d i c other) (refl))
 
 group_home : (group : Code) (c : Context) → (with_formal_group group c).home ≡ c.home
-group_home (Formals names m of) c = each_home (with_formal of) (λ d c. indication_home (declared_number d) of c) names c
-group_home _ c = refl
+group_home = on_group (λ group. (c : Context) → (with_formal_group group c).home ≡ c.home)
+    (λ names m of c.
+    each_home (with_formal of) (λ d c. indication_home (declared_number d) of c) names c)
+    (λ group other c. rw (group_end group c other) (refl))
 
 result_home : (d : ℕ) (result : Code) (c : Context) → (with_result d result c).home ≡ c.home
-result_home d (More i rest) c = indication_home d i c
-result_home d _ c = refl
+result_home d = on_more (λ result. (c : Context) → (with_result d result c).home ≡ c.home)
+    (λ i rest _ c.
+    indication_home d i c)
+    (λ result other c. rw (result_end d result c other) (refl))
 
 front_home : (front : Code) (c : Context) → (with_front front c).home ≡ c.home
-front_home (Front d formals result) c =
-    each_home with_formal_group group_home formals (with_result (declared_number d) result c) ∙ result_home (declared_number d) result c
-front_home _ c = refl
+front_home = on_front (λ front. (c : Context) → (with_front front c).home ≡ c.home)
+    (λ d formals result c.
+    each_home with_formal_group group_home formals (with_result (declared_number d) result c) ∙ result_home (declared_number d) result c)
+    (λ front other c. rw (front_end front c other) (refl))
 
 formals_home : (front : Code) (c : Context) → (with_formals front c).home ≡ c.home
-formals_home (Front d formals result) c = each_home with_formal_group group_home formals c
-formals_home _ c = refl
+formals_home = on_front (λ front. (c : Context) → (with_formals front c).home ≡ c.home)
+    (λ d formals result c.
+    each_home with_formal_group group_home formals c)
+    (λ front other c. rw (formals_end front c other) (refl))
 
 either_home : (declared : Bool) (front : Code) (c : Context) → (if declared then with_formals front c else with_front front c).home ≡ c.home
 either_home true front c = formals_home front c
@@ -49,8 +61,10 @@ literals_home t n (More d rest) c = literals_home t (n + 1) rest (with_entry (de
 literals_home t n _ c = refl
 
 definition_home : (t : ℕ) (def : Code) (c : Context) → (with_definition t def c).home ≡ c.home
-definition_home t (Enumeration literals) c = literals_home t 0 literals c
-definition_home t _ c = refl
+definition_home t = on_enumeration (λ def. (c : Context) → (with_definition t def c).home ≡ c.home)
+    (λ literals c.
+    literals_home t 0 literals c)
+    (λ def other c. rw (definition_end t def c other) (refl))
 
 pub homes : (code : Code) (p : Past) (c : Context) → AtHome p c → AtHome (past_after code p) (gather code c)
 unfolding gather past_after

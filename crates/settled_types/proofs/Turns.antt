@@ -17,6 +17,7 @@ use Rattle.machine.specs.type_definitions.Names.{Context}
 use Rattle.machine.specs.type_definitions.Declarations.{holds_shape, holds_parent}
 use Rattle.machine.specs.type_definitions.Gathered.{declared_number, each, own_info, indicated, with_entry, with_indication, with_object, object_info, with_number, number_info, plain_object, with_formal, with_formal_group, with_formals, with_result, with_front, profile, with_literals, with_definition}
 use Rattle.type_settled.specs.Rings.{IsPart}
+use Rattle.settled_types.proofs.Cases.{definition_end, each_end, formals_end, front_end, group_end, indication_end, on_access, on_enumeration, on_front, on_group, on_more, result_end}
 use Rattle.settled_types.specs.Wholes.{written}
 use Rattle.settled_types.specs.Orderly.{Past, with_incomplete, with_private, within, IsNew, NewOne, AllNew, NewLiterals, NewGroup, NewFormals, NewFront}
 use Rattle.settled_types.specs.Stamped.{IsType, IsFixed, Keeps, LeadsTo, AreRows, AreStamped}
@@ -229,8 +230,10 @@ module _ (final : Known) (count : ℕ) (all : List ℕ) (start : Table)
       no_access t constant of e = cc
 
   pub indication_turn : (d : ℕ) (i : Code) (p : Past) (c : Context) → IsNew count d p → Turn final count all start p c.known p (with_indication d i c).known
-  indication_turn d (Anonymous x constant m) p c new = access_turn d (marked c.known m) constant p c.known new
-  indication_turn d _ p c new = stay p c.known
+  indication_turn d = on_access (λ i. (p : Past) → (c : Context) → IsNew count d p → Turn final count all start p c.known p (with_indication d i c).known)
+      (λ x constant m p c new.
+      access_turn d (marked c.known m) constant p c.known new)
+      (λ i other p c new. rw (indication_end d i c other) (stay p c.known))
 
   -- a type that is completed later
   abbrev awaited_row : Known → ℕ → Option ℕ → Option Pos → Info
@@ -347,39 +350,48 @@ module _ (final : Known) (count : ℕ) (all : List ℕ) (start : Table)
   pub names_turn : (f : Code → Context → Context) (p : Past)
       → ((d : Code) (c : Context) → NewOne count d p → Turn final count all start p c.known p (f d c).known) → (names : Code) (c : Context) → AllNew count names p
       → Turn final count all start p c.known p (each f names c).known
-  names_turn f p one (More d rest) c are =
-      and_then p p p c.known (f d c).known (each f rest (f d c)).known (one d c are.0) (names_turn f p one rest (f d c) are.1)
-  names_turn f p one _ c are = stay p c.known
+  names_turn f p one = on_more (λ names. (c : Context) → AllNew count names p → Turn final count all start p c.known p (each f names c).known)
+      (λ d rest next c are.
+      and_then p p p c.known (f d c).known (each f rest (f d c)).known (one d c are.0) (next (f d c) are.1))
+      (λ names other c are. rw (each_end f names c other) (stay p c.known))
 
   group_turn : (p : Past) (group : Code) (c : Context) → NewGroup count group p → Turn final count all start p c.known p (with_formal_group group c).known
-  group_turn p (Formals names m of) c are = names_turn (with_formal of) p (formal_turn of p) names c are
-  group_turn p _ c are = stay p c.known
+  group_turn p = on_group (λ group. (c : Context) → NewGroup count group p → Turn final count all start p c.known p (with_formal_group group c).known)
+      (λ names m of c are.
+      names_turn (with_formal of) p (formal_turn of p) names c are)
+      (λ group other c are. rw (group_end group c other) (stay p c.known))
 
   groups_turn : (p : Past) (groups : Code) (c : Context) → NewFormals count groups p
       → Turn final count all start p c.known p (each with_formal_group groups c).known
-  groups_turn p (More group rest) c are =
+  groups_turn p = on_more (λ groups. (c : Context) → NewFormals count groups p → Turn final count all start p c.known p (each with_formal_group groups c).known)
+      (λ group rest next c are.
       let middle : Context = with_formal_group group c in
-      and_then p p p c.known middle.known (each with_formal_group rest middle).known (group_turn p group c are.0) (groups_turn p rest middle are.1)
-  groups_turn p _ c are = stay p c.known
+      and_then p p p c.known middle.known (each with_formal_group rest middle).known (group_turn p group c are.0) (next middle are.1))
+      (λ groups other c are. rw (each_end with_formal_group groups c other) (stay p c.known))
 
   result_turn : (d : ℕ) (result : Code) (p : Past) (c : Context) → IsNew count d p → Turn final count all start p c.known p (with_result d result c).known
-  result_turn d (More i rest) p c new = indication_turn d i p c new
-  result_turn d _ p c new = stay p c.known
+  result_turn d = on_more (λ result. (p : Past) → (c : Context) → IsNew count d p → Turn final count all start p c.known p (with_result d result c).known)
+      (λ i rest _ p c new.
+      indication_turn d i p c new)
+      (λ result other p c new. rw (result_end d result c other) (stay p c.known))
 
   pub front_turn : (front : Code) (p : Past) (c : Context) → NewFront count front p → Turn final count all start p c.known p (with_front front c).known
-  front_turn (Front d formals result) p c are =
+  front_turn = on_front (λ front. (p : Past) → (c : Context) → NewFront count front p → Turn final count all start p c.known p (with_front front c).known)
+      (λ d formals result p c are.
       let n : ℕ = declared_number d in
       let first : Context = with_result n result c in
       let inner : Context = each with_formal_group formals first in
       let e : Entry = entry.Subprogram (profile inner.known (Front d formals result)) in
       and_then p p p c.known first.known (entered inner.known n e) (result_turn n result p c are.0)
       (and_then p p p first.known inner.known (entered inner.known n e) (groups_turn p formals first are.1)
-      (entry_turn n e p inner.known are.0 refl))
-  front_turn _ p c are = stay p c.known
+      (entry_turn n e p inner.known are.0 refl)))
+      (λ front other p c are. rw (front_end front c other) (stay p c.known))
 
   formals_turn : (front : Code) (p : Past) (c : Context) → NewFront count front p → Turn final count all start p c.known p (with_formals front c).known
-  formals_turn (Front d formals result) p c are = groups_turn p formals c are.1
-  formals_turn _ p c are = stay p c.known
+  formals_turn = on_front (λ front. (p : Past) → (c : Context) → NewFront count front p → Turn final count all start p c.known p (with_formals front c).known)
+      (λ d formals result p c are.
+      groups_turn p formals c are.1)
+      (λ front other p c are. rw (formals_end front c other) (stay p c.known))
 
   pub body_turn : (declared : Bool) (front : Code) (p : Past) (c : Context) → NewFront count front p
       → Turn final count all start p c.known p (if declared then with_formals front c else with_front front c).known
@@ -396,5 +408,7 @@ module _ (final : Known) (count : ℕ) (all : List ℕ) (start : Table)
   literals_turn t n p _ c are = stay p c.known
 
   pub definition_turn : (t : ℕ) (p : Past) (def : Code) (c : Context) → NewLiterals count def p → Turn final count all start p c.known p (with_definition t def c).known
-  definition_turn t p (Enumeration literals) c are = literals_turn t 0 p literals c are
-  definition_turn t p _ c are = stay p c.known
+  definition_turn t p = on_enumeration (λ def. (c : Context) → NewLiterals count def p → Turn final count all start p c.known p (with_definition t def c).known)
+      (λ literals c are.
+      literals_turn t 0 p literals c are)
+      (λ def other c are. rw (definition_end t def c other) (stay p c.known))

@@ -18,6 +18,7 @@ use Rattle.machine.specs.type_definitions.Entries.{entry_of, is_type, type_of_en
 use Rattle.machine.specs.type_definitions.Names.{Context}
 use Rattle.machine.specs.type_definitions.Whole.{predefined_types, predefined_entries, at_first, outside, gather_units, known_from, known_of}
 use Rattle.machine.specs.type_definitions.Gathered.{gather, each, declared_number, declared_pos, with_entry, with_info, with_type, own_info, with_indication, awaited_info, is_asked, are_static_bounds, bound_pair, with_literals, with_definition, full_info, constrained_shape, subtype_info, meant_by, indicated, with_object, object_info, constant_value, with_number, number_info, initial_value, plain_object, with_formal, with_formal_group, with_formals, with_result, with_front, with_body_front, profile, is_subprogram, front_number, parameter_type, in_subprogram, in_visible, in_hidden, instance_type}
+use Rattle.settled_types.proofs.Cases.{definition_end, each_end, formals_end, front_end, group_end, on_enumeration, on_front, on_group, on_more, result_end}
 use Rattle.settled_types.proofs.Main.{first_types}
 use Rattle.settled_types.specs.GatheredLaws.Views.{named_numbers}
 use Rattle.settled_types.proofs.GatheredLaws.Gathered.{row_after, entry_after}
@@ -88,51 +89,66 @@ module _ (named : ℕ → Type 0) (front_is body_is : Code → Type 0) (as_front
   literals_put t n ids c are = are
 
   definition_put : (t : ℕ) (def : Code) (c : Context) → Shown c.known → Shown (with_definition t def c).known
-  definition_put t (Enumeration literals) c are = literals_put t 0 literals c are
-  definition_put t def c are = are
+  definition_put t = on_enumeration (λ def. (c : Context) → Shown c.known → Shown (with_definition t def c).known)
+      (λ literals c are.
+      literals_put t 0 literals c are)
+      (λ def other c are. rw (definition_end t def c other) (are))
 
   objects_put : (constant : Bool) (i : Code) (v : InitialValue) (ids : Code) (c : Context) → Shown c.known → Shown (each (with_object constant i v) ids c).known
-  objects_put constant i v (More d rest) c are =
+  objects_put constant i v = on_more (λ ids. (c : Context) → Shown c.known → Shown (each (with_object constant i v) ids c).known)
+      (λ d rest next c are.
       let n : ℕ = declared_number d in
-      objects_put constant i v rest (with_object constant i v d c)
-      (other_put (with_indication n i c) n (entry.Object (object_info c constant (indicated c.known n i) v)) refl tt (indication_put n i c are))
-  objects_put constant i v ids c are = are
+      next (with_object constant i v d c)
+      (other_put (with_indication n i c) n (entry.Object (object_info c constant (indicated c.known n i) v)) refl tt (indication_put n i c are)))
+      (λ ids other c are. rw (each_end (with_object constant i v) ids c other) (are))
 
   numbers_put : (v : InitialValue) (ids : Code) (c : Context) → Shown c.known → Shown (each (with_number v) ids c).known
-  numbers_put v (More d rest) c are = numbers_put v rest (with_number v d c) (other_put c (declared_number d) (entry.Object (number_info c v)) refl tt are)
-  numbers_put v ids c are = are
+  numbers_put v = on_more (λ ids. (c : Context) → Shown c.known → Shown (each (with_number v) ids c).known)
+      (λ d rest next c are.
+      next (with_number v d c) (other_put c (declared_number d) (entry.Object (number_info c v)) refl tt are))
+      (λ ids other c are. rw (each_end (with_number v) ids c other) (are))
 
   names_put : (of ids : Code) (c : Context) → Shown c.known → Shown (each (with_formal of) ids c).known
-  names_put of (More d rest) c are =
+  names_put of = on_more (λ ids. (c : Context) → Shown c.known → Shown (each (with_formal of) ids c).known)
+      (λ d rest next c are.
       let n : ℕ = declared_number d in
-      names_put of rest (with_formal of d c)
-      (other_put (with_indication n of c) n (entry.Object (plain_object (indicated c.known n of) kind.Formal)) refl tt (indication_put n of c are))
-  names_put of ids c are = are
+      next (with_formal of d c)
+      (other_put (with_indication n of c) n (entry.Object (plain_object (indicated c.known n of) kind.Formal)) refl tt (indication_put n of c are)))
+      (λ ids other c are. rw (each_end (with_formal of) ids c other) (are))
 
   group_put : (group : Code) (c : Context) → Shown c.known → Shown (with_formal_group group c).known
-  group_put (Formals names m of) c are = names_put of names c are
-  group_put group c are = are
+  group_put = on_group (λ group. (c : Context) → Shown c.known → Shown (with_formal_group group c).known)
+      (λ names m of c are.
+      names_put of names c are)
+      (λ group other c are. rw (group_end group c other) (are))
 
   groups_put : (formals : Code) (c : Context) → Shown c.known → Shown (each with_formal_group formals c).known
-  groups_put (More group rest) c are = groups_put rest (with_formal_group group c) (group_put group c are)
-  groups_put formals c are = are
+  groups_put = on_more (λ formals. (c : Context) → Shown c.known → Shown (each with_formal_group formals c).known)
+      (λ group rest next c are.
+      next (with_formal_group group c) (group_put group c are))
+      (λ formals other c are. rw (each_end with_formal_group formals c other) (are))
 
   result_put : (d : ℕ) (result : Code) (c : Context) → Shown c.known → Shown (with_result d result c).known
-  result_put d (More i rest) c are = indication_put d i c are
-  result_put d result c are = are
+  result_put d = on_more (λ result. (c : Context) → Shown c.known → Shown (with_result d result c).known)
+      (λ i rest _ c are.
+      indication_put d i c are)
+      (λ result other c are. rw (result_end d result c other) (are))
 
   front_put : (front : Code) (c : Context) → front_is front → Shown c.known → Shown (with_front front c).known
-  front_put (Front d formals result) c told are =
+  front_put = on_front (λ front. (c : Context) → front_is front → Shown c.known → Shown (with_front front c).known)
+      (λ d formals result c told are.
       let n : ℕ = declared_number d in
       let inner : Context = each with_formal_group formals (with_result n result c) in
       let next : Shown inner.known = groups_put formals (with_result n result c) (result_put n result c are) in
       other_put inner n (entry.Subprogram (profile inner.known (Front d formals result))) refl
-      (record { known = inner.known; code = Front d formals result; told = told; number = refl; marks = λ m. marked_named inner.known m next; same = refl }) next
-  front_put front c told are = are
+      (record { known = inner.known; code = Front d formals result; told = told; number = refl; marks = λ m. marked_named inner.known m next; same = refl }) next)
+      (λ front other c told are. rw (front_end front c other) (are))
 
   formals_put : (front : Code) (c : Context) → Shown c.known → Shown (with_formals front c).known
-  formals_put (Front d formals result) c are = groups_put formals c are
-  formals_put front c are = are
+  formals_put = on_front (λ front. (c : Context) → Shown c.known → Shown (with_formals front c).known)
+      (λ d formals result c are.
+      groups_put formals c are)
+      (λ front other c are. rw (formals_end front c other) (are))
 
   body_put : (front : Code) (c : Context) → body_is front → Shown c.known → Shown (with_body_front front c).known
   body_put front c told are = by (is_subprogram (entry_of c.known (front_number front)))

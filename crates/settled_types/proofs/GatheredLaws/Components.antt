@@ -23,6 +23,7 @@ use Rattle.machine.specs.type_definitions.Names.{Context}
 use Rattle.machine.specs.type_definitions.Expressions.{by_name, no_component}
 use Rattle.machine.specs.type_definitions.Gathered.{gather, each, texts, with_entry, with_info, with_type, with_indication, own_info, awaited_info, full_info, subtype_info, meant_by, constrained_shape, bound_pair, is_asked, are_static_bounds, component_group, component_groups, component_list, defined, with_literals, with_definition, with_object, constant_value, with_number, initial_value, with_formal, with_formal_group, with_formals, with_result, with_front, with_body_front, is_subprogram, front_number, plain_object, parameter_type, in_subprogram, in_visible, in_hidden, declared_number, declared_pos, declared_text}
 use Rattle.machine.specs.type_definitions.Whole.{predefined_types, at_first, outside, gather_units, known_from, known_of}
+use Rattle.settled_types.proofs.Cases.{definition_end, each_end, formals_end, front_end, group_end, indication_end, on_access, on_enumeration, on_front, on_group, on_more, result_end}
 use Rattle.settled_types.specs.GatheredLaws.Components.{AreWordsApart, group_texts, list_texts, IsRecordApart, AreRecordsApart, IsShapeApart}
 use Rattle.settled_types.specs.GatheredLaws.Left.{Left}
 
@@ -123,34 +124,47 @@ literals_apart t n (More d rest) c are = literals_apart t (n + 1) rest (with_ent
 literals_apart t n ids c are = are
 
 definition_apart : (t : ℕ) (def : Code) (c : Context) → AreApart c → AreApart (with_definition t def c)
-definition_apart t (Enumeration literals) c are = literals_apart t 0 literals c are
-definition_apart t def c are = are
+definition_apart t = on_enumeration (λ def. (c : Context) → AreApart c → AreApart (with_definition t def c))
+    (λ literals c are.
+    literals_apart t 0 literals c are)
+    (λ def other c are. rw (definition_end t def c other) (are))
 
 indication_apart : (d : ℕ) (i : Code) (c : Context) → AreApart c → AreApart (with_indication d i c)
-indication_apart d (Anonymous p constant m) c are = put d (own_info (shape.Access (marked c.known m) constant false) d) c tt are
-indication_apart d i c are = are
+indication_apart d = on_access (λ i. (c : Context) → AreApart c → AreApart (with_indication d i c))
+    (λ p constant m c are.
+    put d (own_info (shape.Access (marked c.known m) constant false) d) c tt are)
+    (λ i other c are. rw (indication_end d i c other) (are))
 
 each_apart : (f : Code → Context → Context) → ((a : Code) (c : Context) → AreApart c → AreApart (f a c)) → (ids : Code) (c : Context)
     → AreApart c → AreApart (each f ids c)
-each_apart f one (More a rest) c are = each_apart f one rest (f a c) (one a c are)
-each_apart f one ids c are = are
+each_apart f one = on_more (λ ids. (c : Context) → AreApart c → AreApart (each f ids c))
+    (λ a rest next c are.
+    next (f a c) (one a c are))
+    (λ ids other c are. rw (each_end f ids c other) (are))
 
 group_apart : (group : Code) (c : Context) → AreApart c → AreApart (with_formal_group group c)
-group_apart (Formals names m of) c are = each_apart (with_formal of) (λ d c are. indication_apart (declared_number d) of c are) names c are
-group_apart group c are = are
+group_apart = on_group (λ group. (c : Context) → AreApart c → AreApart (with_formal_group group c))
+    (λ names m of c are.
+    each_apart (with_formal of) (λ d c are. indication_apart (declared_number d) of c are) names c are)
+    (λ group other c are. rw (group_end group c other) (are))
 
 result_apart : (d : ℕ) (result : Code) (c : Context) → AreApart c → AreApart (with_result d result c)
-result_apart d (More i rest) c are = indication_apart d i c are
-result_apart d result c are = are
+result_apart d = on_more (λ result. (c : Context) → AreApart c → AreApart (with_result d result c))
+    (λ i rest _ c are.
+    indication_apart d i c are)
+    (λ result other c are. rw (result_end d result c other) (are))
 
 front_apart : (front : Code) (c : Context) → AreApart c → AreApart (with_front front c)
-front_apart (Front d formals result) c are =
-    each_apart with_formal_group group_apart formals (with_result (declared_number d) result c) (result_apart (declared_number d) result c are)
-front_apart front c are = are
+front_apart = on_front (λ front. (c : Context) → AreApart c → AreApart (with_front front c))
+    (λ d formals result c are.
+    each_apart with_formal_group group_apart formals (with_result (declared_number d) result c) (result_apart (declared_number d) result c are))
+    (λ front other c are. rw (front_end front c other) (are))
 
 formals_apart : (front : Code) (c : Context) → AreApart c → AreApart (with_formals front c)
-formals_apart (Front d formals result) c are = each_apart with_formal_group group_apart formals c are
-formals_apart front c are = are
+formals_apart = on_front (λ front. (c : Context) → AreApart c → AreApart (with_formals front c))
+    (λ d formals result c are.
+    each_apart with_formal_group group_apart formals c are)
+    (λ front other c are. rw (formals_end front c other) (are))
 
 body_apart : (front : Code) (c : Context) → AreApart c → AreApart (with_body_front front c)
 body_apart front c are = by (is_subprogram (entry_of c.known (front_number front)))

@@ -11,6 +11,7 @@ use Rattle.machine.specs.type_definitions.declared.table.Shape.TheVariants as sh
 use Rattle.machine.specs.type_definitions.Types.{Table, shape_found}
 use Rattle.machine.specs.type_definitions.Names.{Context}
 use Rattle.machine.specs.type_definitions.Gathered.{gather, defined, with_literals, with_definition, with_entry, with_type, full_info, declared_number, in_hidden}
+use Rattle.settled_types.proofs.Cases.{definition_end, on_enumeration}
 use Rattle.settled_types.specs.Wholes.{written}
 use Rattle.settled_types.specs.Orderly.{Past, with_defined, definition_marks, within, past_after, Orderly}
 use Rattle.settled_types.specs.Stamped.{IsFixed}
@@ -32,8 +33,10 @@ literals_table t n ids c = refl
 
 -- Literals aren't rows.
 pub definition_table : (t : ℕ) (def : Code) (c : Context) → (with_definition t def c).known.table ≡ c.known.table
-definition_table t (Enumeration literals) c = literals_table t 0 literals c
-definition_table t def c = refl
+definition_table t = on_enumeration (λ def. (c : Context) → (with_definition t def c).known.table ≡ c.known.table)
+    (λ literals c.
+    literals_table t 0 literals c)
+    (λ def other c. rw (definition_end t def c other) (refl))
 
 module _ (final : Known) (count : ℕ) (all : List ℕ) (start : Table)
     (unlike : (d of : ℕ) → 15 ≤ d → Has all d → written start d ≡ shape.Same of → ⊥) (T : Table) where

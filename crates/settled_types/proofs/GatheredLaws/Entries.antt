@@ -9,6 +9,7 @@ use Rattle.machine.specs.type_definitions.declared.table.Kind.TheVariants as kin
 use Rattle.machine.specs.type_definitions.Entries.{entry_of}
 use Rattle.machine.specs.type_definitions.Names.{Context}
 use Rattle.machine.specs.type_definitions.Gathered.{gather, each, with_entry, with_type, with_indication, full_info, with_literals, with_definition, with_object, object_info, constant_value, indicated, with_number, number_info, initial_value, with_formal, with_formal_group, with_formals, with_result, with_front, with_body_front, profile, is_subprogram, front_number, plain_object, parameter_type, in_subprogram, in_visible, in_hidden, instance_type, declared_number}
+use Rattle.settled_types.proofs.Cases.{definition_end, each_end, formals_end, front_end, group_end, indication_end, on_access, on_enumeration, on_front, on_group, on_more, result_end}
 use Rattle.settled_types.specs.GatheredLaws.Says.{Says, SaysDefined, SaysAll}
 
 entry_put : {A : Type 0} (xs : List A) (d t : ℕ) (x fallback : A) (Q : A → Type 0) → Q x → Q (get_or xs t fallback) → Q (get_or (set xs d x) t fallback)
@@ -34,17 +35,23 @@ module _ (literal instance : ℕ → Type 0) where
   literals_said t n ids c is are = are
 
   definition_said : (t : ℕ) (def : Code) (c : Context) → SaysDefined literal t def → AreSaid c → AreSaid (with_definition t def c)
-  definition_said t (Enumeration literals) c is are = literals_said t 0 literals c is are
-  definition_said t def c is are = are
+  definition_said t = on_enumeration (λ def. (c : Context) → SaysDefined literal t def → AreSaid c → AreSaid (with_definition t def c))
+      (λ literals c is are.
+      literals_said t 0 literals c is are)
+      (λ def other c is are. rw (definition_end t def c other) (are))
 
   indication_said : (d : ℕ) (i : Code) (c : Context) → AreSaid c → AreSaid (with_indication d i c)
-  indication_said d (Anonymous p constant m) c are = are
-  indication_said d i c are = are
+  indication_said d = on_access (λ i. (c : Context) → AreSaid c → AreSaid (with_indication d i c))
+      (λ p constant m c are.
+      are)
+      (λ i other c are. rw (indication_end d i c other) (are))
 
   each_said : (f : Code → Context → Context) → ((a : Code) (c : Context) → AreSaid c → AreSaid (f a c)) → (ids : Code) (c : Context)
       → AreSaid c → AreSaid (each f ids c)
-  each_said f one (More a rest) c are = each_said f one rest (f a c) (one a c are)
-  each_said f one ids c are = are
+  each_said f one = on_more (λ ids. (c : Context) → AreSaid c → AreSaid (each f ids c))
+      (λ a rest next c are.
+      next (f a c) (one a c are))
+      (λ ids other c are. rw (each_end f ids c other) (are))
 
   object_said : (constant : Bool) (i : Code) (v : InitialValue) (d : Code) (c : Context) → AreSaid c → AreSaid (with_object constant i v d c)
   object_said constant i v d c are =
@@ -57,24 +64,31 @@ module _ (literal instance : ℕ → Type 0) where
       (indication_said (declared_number d) of c are)
 
   group_said : (group : Code) (c : Context) → AreSaid c → AreSaid (with_formal_group group c)
-  group_said (Formals names m of) c are = each_said (with_formal of) (formal_said of) names c are
-  group_said group c are = are
+  group_said = on_group (λ group. (c : Context) → AreSaid c → AreSaid (with_formal_group group c))
+      (λ names m of c are.
+      each_said (with_formal of) (formal_said of) names c are)
+      (λ group other c are. rw (group_end group c other) (are))
 
   result_said : (d : ℕ) (result : Code) (c : Context) → AreSaid c → AreSaid (with_result d result c)
-  result_said d (More i rest) c are = indication_said d i c are
-  result_said d result c are = are
+  result_said d = on_more (λ result. (c : Context) → AreSaid c → AreSaid (with_result d result c))
+      (λ i rest _ c are.
+      indication_said d i c are)
+      (λ result other c are. rw (result_end d result c other) (are))
 
   front_said : (front : Code) (c : Context) → AreSaid c → AreSaid (with_front front c)
-  front_said (Front d formals result) c are =
+  front_said = on_front (λ front. (c : Context) → AreSaid c → AreSaid (with_front front c))
+      (λ d formals result c are.
       let n : ℕ = declared_number d in
       let inner : Context = each with_formal_group formals (with_result n result c) in
       put n (entry.Subprogram (profile inner.known (Front d formals result))) inner tt
-      (each_said with_formal_group group_said formals (with_result n result c) (result_said n result c are))
-  front_said front c are = are
+      (each_said with_formal_group group_said formals (with_result n result c) (result_said n result c are)))
+      (λ front other c are. rw (front_end front c other) (are))
 
   formals_said : (front : Code) (c : Context) → AreSaid c → AreSaid (with_formals front c)
-  formals_said (Front d formals result) c are = each_said with_formal_group group_said formals c are
-  formals_said front c are = are
+  formals_said = on_front (λ front. (c : Context) → AreSaid c → AreSaid (with_formals front c))
+      (λ d formals result c are.
+      each_said with_formal_group group_said formals c are)
+      (λ front other c are. rw (formals_end front c other) (are))
 
   body_said : (front : Code) (c : Context) → AreSaid c → AreSaid (with_body_front front c)
   body_said front c are = by (is_subprogram (entry_of c.known (front_number front)))

@@ -28,6 +28,7 @@ use Rattle.machine.specs.type_definitions.Expressions.{own_type}
 use Rattle.machine.specs.type_definitions.Statements.{type_or_integer}
 use Rattle.machine.specs.type_definitions.Whole.{predefined_types}
 use Rattle.machine.specs.type_definitions.Gathered.{gather, each, declared_number, declared_pos, with_entry, with_info, with_type, own_info, indicated, with_indication, awaited_info, component_group, component_list, component_groups, defined, is_asked, is_bounded_range, are_static_bounds, bound_pair, has_bounds, with_literals, with_definition, full_info, constrained_shape, subtype_info, meant_by, with_object, object_info, constant_value, with_number, number_info, initial_value, plain_object, with_formal, with_formal_group, with_formals, with_result, with_front, with_body_front, profile, formal_group, formal_groups, formal_infos, anonymous_result, result_indicated, is_subprogram, front_number, parameter_type, in_subprogram, in_visible, in_hidden, instance_type}
+use Rattle.settled_types.proofs.Cases.{definition_end, each_end, formals_end, front_end, group_end, indication_end, on_access, on_enumeration, on_front, on_group, on_more, result_end}
 use Rattle.settled_types.specs.GatheredLaws.Made.{indicated_numbers, all_numbers, group_numbers, result_numbers, front_numbers, type_numbers, IsMadeOf, SpeaksOf, AreTypes}
 
 -- ---- lists
@@ -172,8 +173,10 @@ module _ (is : ℕ → Type 0) (low : (t : ℕ) → t < 5 → is t) where
   literals_kept t n ids c h are = are
 
   definition_kept : (t : ℕ) (def : Code) (c : Context) → is t → Good c → Good (with_definition t def c)
-  definition_kept t (Enumeration literals) c h are = literals_kept t 0 literals c h are
-  definition_kept t def c h are = are
+  definition_kept t = on_enumeration (λ def. (c : Context) → is t → Good c → Good (with_definition t def c))
+      (λ literals c h are.
+      literals_kept t 0 literals c h are)
+      (λ def other c h are. rw (definition_end t def c other) (are))
 
   -- ---- objects
 
@@ -183,16 +186,19 @@ module _ (is : ℕ → Type 0) (low : (t : ℕ) → t < 5 → is t) where
   indicated_made known d i new are = whole
 
   indication_kept : (d : ℕ) (i : Code) (c : Context) → AllNew (indicated_numbers i (d ∷ [])) → Good c → Good (with_indication d i c)
-  indication_kept d (Anonymous p constant m) c new are =
+  indication_kept d = on_access (λ i. (c : Context) → AllNew (indicated_numbers i (d ∷ [])) → Good c → Good (with_indication d i c))
+      (λ p constant m c new are.
       let at = new d (inl refl) in
       row_kept c d (own_info (shape.Access (marked c.known m) constant false) d) at.1
-      (own_row (shape.Access (marked c.known m) constant false) d at (mark_made c.known m are)) are
-  indication_kept d i c new are = are
+      (own_row (shape.Access (marked c.known m) constant false) d at (mark_made c.known m are)) are)
+      (λ i other c new are. rw (indication_end d i c other) (are))
 
   each_kept : (f : Code → Context → Context) (ids : Code) → ((d : Code) → Has (code_items ids) d → (c : Context) → Good c → Good (f d c))
       → (c : Context) → Good c → Good (each f ids c)
-  each_kept f (More a rest) kept c are = each_kept f rest (λ d has. kept d (inr has)) (f a c) (kept a (inl refl) c are)
-  each_kept f ids kept c are = are
+  each_kept f = on_more (λ ids. ((d : Code) → Has (code_items ids) d → (c : Context) → Good c → Good (f d c)) → (c : Context) → Good c → Good (each f ids c))
+      (λ a rest next kept c are.
+      next (λ d has. kept d (inr has)) (f a c) (kept a (inl refl) c are))
+      (λ ids other kept c are. rw (each_end f ids c other) (are))
 
   one_new : (i ids d : Code) → AllNew (indicated_numbers i (all_numbers ids)) → Has (code_items ids) d → AllNew (indicated_numbers i (declared_number d ∷ []))
   one_new (Anonymous p constant m) ids d new has n here = elim here [
@@ -212,17 +218,22 @@ module _ (is : ℕ → Type 0) (low : (t : ℕ) → t < 5 → is t) where
       (indicated_made c.known (declared_number d) of new are) (indication_kept (declared_number d) of c new are)
 
   group_kept : (group : Code) → AllNew (group_numbers group) → (c : Context) → Good c → Good (with_formal_group group c)
-  group_kept (Formals names m of) new c are = each_kept (with_formal of) names (λ d has. formal_kept of d (one_new of names d new has)) c are
-  group_kept group new c are = are
+  group_kept = on_group (λ group. AllNew (group_numbers group) → (c : Context) → Good c → Good (with_formal_group group c))
+      (λ names m of new c are.
+      each_kept (with_formal of) names (λ d has. formal_kept of d (one_new of names d new has)) c are)
+      (λ group other new c are. rw (group_end group c other) (are))
 
   groups_kept : (formals : Code) → AllNew (flat_map group_numbers (code_items formals)) → (c : Context) → Good c → Good (each with_formal_group formals c)
-  groups_kept (More group rest) new c are =
-      groups_kept rest (rest_new (group_numbers group) _ new) (with_formal_group group c) (group_kept group (first_new (group_numbers group) _ new) c are)
-  groups_kept formals new c are = are
+  groups_kept = on_more (λ formals. AllNew (flat_map group_numbers (code_items formals)) → (c : Context) → Good c → Good (each with_formal_group formals c))
+      (λ group rest next new c are.
+      next (rest_new (group_numbers group) _ new) (with_formal_group group c) (group_kept group (first_new (group_numbers group) _ new) c are))
+      (λ formals other new c are. rw (each_end with_formal_group formals c other) (are))
 
   result_kept : (d : ℕ) (result : Code) → AllNew (result_numbers d result) → (c : Context) → Good c → Good (with_result d result c)
-  result_kept d (More i rest) new c are = indication_kept d i c new are
-  result_kept d result new c are = are
+  result_kept d = on_more (λ result. AllNew (result_numbers d result) → (c : Context) → Good c → Good (with_result d result c))
+      (λ i rest _ new c are.
+      indication_kept d i c new are)
+      (λ result other new c are. rw (result_end d result c other) (are))
 
   result_made : (known : Known) (d : ℕ) (result : Code) → AllNew (result_numbers d result) → AreTypes is known → (t : ℕ) → result_indicated known d result ≡ Some t → is t
   result_made known d (More i rest) new are t e = let same : indicated known d i ≡ t = cc in subst is same (indicated_made known d i new are)
@@ -260,18 +271,21 @@ module _ (is : ℕ → Type 0) (low : (t : ℕ) → t < 5 → is t) where
   formals_made known first formals new are = tt
 
   front_kept : (front : Code) → AllNew (front_numbers front) → (c : Context) → Good c → Good (with_front front c)
-  front_kept (Front d formals result) new c are =
+  front_kept = on_front (λ front. AllNew (front_numbers front) → (c : Context) → Good c → Good (with_front front c))
+      (λ d formals result new c are.
       let n = declared_number d in
       let results = first_new (result_numbers n result) _ new in
       let inner = each with_formal_group formals (with_result n result c) in
       let good = groups_kept formals (rest_new (result_numbers n result) _ new) (with_result n result c) (result_kept n result results c are) in
       entry_kept inner n (entry.Subprogram (profile inner.known (Front d formals result)))
-      (result_made inner.known n result results good, formals_made inner.known (anonymous_result result) formals (rest_new (result_numbers n result) _ new) good) good
-  front_kept front new c are = are
+      (result_made inner.known n result results good, formals_made inner.known (anonymous_result result) formals (rest_new (result_numbers n result) _ new) good) good)
+      (λ front other new c are. rw (front_end front c other) (are))
 
   formals_kept : (front : Code) → AllNew (front_numbers front) → (c : Context) → Good c → Good (with_formals front c)
-  formals_kept (Front d formals result) new c are = groups_kept formals (rest_new (result_numbers (declared_number d) result) _ new) c are
-  formals_kept front new c are = are
+  formals_kept = on_front (λ front. AllNew (front_numbers front) → (c : Context) → Good c → Good (with_formals front c))
+      (λ d formals result new c are.
+      groups_kept formals (rest_new (result_numbers (declared_number d) result) _ new) c are)
+      (λ front other new c are. rw (formals_end front c other) (are))
 
   body_kept : (front : Code) → AllNew (front_numbers front) → (c : Context) → Good c → Good (with_body_front front c)
   body_kept front new c are = by (is_subprogram (entry_of c.known (front_number front)))

@@ -5,6 +5,7 @@ use Rattle.machine.specs.spark_base.Lists.{Has}
 use Rattle.spark_base.proofs.Lists.{Has-append_cases}
 use Rattle.machine.specs.resolved_tree.Trees.{More, Code, Anonymous, Incomplete, Private, TypeDecl, Subtype, ConstrainedSubtype, Objects, Formals, Front, SubDecl, SubBody, Package, PackageBody, If, Branch, Case, When, Loop, While, For, Block, code_items, Program}
 use Rattle.machine.specs.type_definitions.Gathered.{declared_number}
+use Rattle.settled_types.proofs.Cases.{indicated_end, items_end, on_access, on_more}
 use Rattle.settled_types.specs.Orderly.{Past, past_after, within, NewFormals, NewGroup, NewFront, AllNew, Orderly, AllOrderly, IsOrderly, at_start}
 use Rattle.settled_types.specs.GatheredLaws.Made.{indicated_numbers, all_numbers, group_numbers, result_numbers, front_numbers, type_numbers}
 
@@ -22,8 +23,10 @@ both_high : (count : ℕ) (xs ys : List ℕ) → AreHigh count xs → AreHigh co
 both_high count xs ys h g d has = elim (Has-append_cases xs ys d has) [ inl left ↦ h d left | inr right ↦ g d right ]
 
 indicated_high : (count : ℕ) (i : Code) (numbers : List ℕ) → AreHigh count numbers → AreHigh count (indicated_numbers i numbers)
-indicated_high count (Anonymous p constant m) numbers h = h
-indicated_high count i numbers h = none_high count
+indicated_high count = on_access (λ i. (numbers : List ℕ) → AreHigh count numbers → AreHigh count (indicated_numbers i numbers))
+    (λ p constant m numbers h.
+    h)
+    (λ i other numbers h. rw (indicated_end i numbers other) (none_high count))
 
 all_high : (count : ℕ) (ids : Code) (past : Past) → AllNew count ids past → AreHigh count (all_numbers ids)
 all_high count (More x rest) past new = both_high count (declared_number x ∷ []) (all_numbers rest) (one_high count (declared_number x) new.0.0 new.0.1) (all_high count rest past new.1)
@@ -34,9 +37,10 @@ group_high count (Formals names m of) past new = indicated_high count of (all_nu
 group_high count group past new = none_high count
 
 formals_high : (count : ℕ) (formals : Code) (past : Past) → NewFormals count formals past → AreHigh count (flat_map group_numbers (code_items formals))
-formals_high count (More group rest) past new =
-    both_high count (group_numbers group) (flat_map group_numbers (code_items rest)) (group_high count group past new.0) (formals_high count rest past new.1)
-formals_high count formals past new = none_high count
+formals_high count = on_more (λ formals. (past : Past) → NewFormals count formals past → AreHigh count (flat_map group_numbers (code_items formals)))
+    (λ group rest next past new.
+    both_high count (group_numbers group) (flat_map group_numbers (code_items rest)) (group_high count group past new.0) (next past new.1))
+    (λ formals other past new. rw (items_end formals other) (none_high count))
 
 result_high : (count n : ℕ) (result : Code) → 15 ≤ n → n < count → AreHigh count (result_numbers n result)
 result_high count n (More i rest) high less = indicated_high count i (n ∷ []) (one_high count n high less)

@@ -28,6 +28,7 @@ use Rattle.settled_types.specs.Stamped.{AllOpen}
 use Rattle.settled_types.proofs.Faultless.{program_open}
 use Rattle.settled_types.proofs.Main.{first_types}
 use Rattle.machine.specs.Words.{component_type, no_component}
+use Rattle.settled_types.proofs.Cases.{definition_end, each_end, formals_end, front_end, group_end, indication_end, on_access, on_enumeration, on_front, on_group, on_more, result_end}
 use Rattle.settled_types.specs.GatheredLaws.Made.{IsMadeOf}
 use Rattle.settled_types.specs.GatheredLaws.Views.{named_numbers, AreViews}
 use Rattle.settled_types.specs.GatheredLaws.Faultless.{IsFaultless}
@@ -124,53 +125,70 @@ module _ (named : ℕ → Type 0) (low : (t : ℕ) → t < 5 → named t) where
   literals_put t n ids c are = are
 
   definition_put : (t : ℕ) (def : Code) (c : Context) → AreParts c → AreParts (with_definition t def c)
-  definition_put t (Enumeration literals) c are = literals_put t 0 literals c are
-  definition_put t def c are = are
+  definition_put t = on_enumeration (λ def. (c : Context) → AreParts c → AreParts (with_definition t def c))
+      (λ literals c are.
+      literals_put t 0 literals c are)
+      (λ def other c are. rw (definition_end t def c other) (are))
 
   indication_put : (d : ℕ) (i : Code) (c : Context) → AreParts c → AreParts (with_indication d i c)
-  indication_put d (Anonymous p constant m) c are = row_put c d (own_info (shape.Access (marked c.known m) constant false) d) (marked_named c m are) are
-  indication_put d i c are = are
+  indication_put d = on_access (λ i. (c : Context) → AreParts c → AreParts (with_indication d i c))
+      (λ p constant m c are.
+      row_put c d (own_info (shape.Access (marked c.known m) constant false) d) (marked_named c m are) are)
+      (λ i other c are. rw (indication_end d i c other) (are))
 
   objects_put : (constant : Bool) (i : Code) (v : InitialValue) (ids : Code) (c : Context) → AreParts c → AreParts (each (with_object constant i v) ids c)
-  objects_put constant i v (More d rest) c are =
+  objects_put constant i v = on_more (λ ids. (c : Context) → AreParts c → AreParts (each (with_object constant i v) ids c))
+      (λ d rest next c are.
       let n : ℕ = declared_number d in
-      objects_put constant i v rest (with_object constant i v d c)
-      (other_put (with_indication n i c) n (entry.Object (object_info c constant (indicated c.known n i) v)) refl (indication_put n i c are))
-  objects_put constant i v ids c are = are
+      next (with_object constant i v d c)
+      (other_put (with_indication n i c) n (entry.Object (object_info c constant (indicated c.known n i) v)) refl (indication_put n i c are)))
+      (λ ids other c are. rw (each_end (with_object constant i v) ids c other) (are))
 
   numbers_put : (v : InitialValue) (ids : Code) (c : Context) → AreParts c → AreParts (each (with_number v) ids c)
-  numbers_put v (More d rest) c are = numbers_put v rest (with_number v d c) (other_put c (declared_number d) (entry.Object (number_info c v)) refl are)
-  numbers_put v ids c are = are
+  numbers_put v = on_more (λ ids. (c : Context) → AreParts c → AreParts (each (with_number v) ids c))
+      (λ d rest next c are.
+      next (with_number v d c) (other_put c (declared_number d) (entry.Object (number_info c v)) refl are))
+      (λ ids other c are. rw (each_end (with_number v) ids c other) (are))
 
   names_put : (of ids : Code) (c : Context) → AreParts c → AreParts (each (with_formal of) ids c)
-  names_put of (More d rest) c are =
+  names_put of = on_more (λ ids. (c : Context) → AreParts c → AreParts (each (with_formal of) ids c))
+      (λ d rest next c are.
       let n : ℕ = declared_number d in
-      names_put of rest (with_formal of d c)
-      (other_put (with_indication n of c) n (entry.Object (plain_object (indicated c.known n of) kind.Formal)) refl (indication_put n of c are))
-  names_put of ids c are = are
+      next (with_formal of d c)
+      (other_put (with_indication n of c) n (entry.Object (plain_object (indicated c.known n of) kind.Formal)) refl (indication_put n of c are)))
+      (λ ids other c are. rw (each_end (with_formal of) ids c other) (are))
 
   group_put : (group : Code) (c : Context) → AreParts c → AreParts (with_formal_group group c)
-  group_put (Formals names m of) c are = names_put of names c are
-  group_put group c are = are
+  group_put = on_group (λ group. (c : Context) → AreParts c → AreParts (with_formal_group group c))
+      (λ names m of c are.
+      names_put of names c are)
+      (λ group other c are. rw (group_end group c other) (are))
 
   groups_put : (formals : Code) (c : Context) → AreParts c → AreParts (each with_formal_group formals c)
-  groups_put (More group rest) c are = groups_put rest (with_formal_group group c) (group_put group c are)
-  groups_put formals c are = are
+  groups_put = on_more (λ formals. (c : Context) → AreParts c → AreParts (each with_formal_group formals c))
+      (λ group rest next c are.
+      next (with_formal_group group c) (group_put group c are))
+      (λ formals other c are. rw (each_end with_formal_group formals c other) (are))
 
   result_put : (d : ℕ) (result : Code) (c : Context) → AreParts c → AreParts (with_result d result c)
-  result_put d (More i rest) c are = indication_put d i c are
-  result_put d result c are = are
+  result_put d = on_more (λ result. (c : Context) → AreParts c → AreParts (with_result d result c))
+      (λ i rest _ c are.
+      indication_put d i c are)
+      (λ result other c are. rw (result_end d result c other) (are))
 
   front_put : (front : Code) (c : Context) → AreParts c → AreParts (with_front front c)
-  front_put (Front d formals result) c are =
+  front_put = on_front (λ front. (c : Context) → AreParts c → AreParts (with_front front c))
+      (λ d formals result c are.
       let n : ℕ = declared_number d in
       let inner : Context = each with_formal_group formals (with_result n result c) in
-      other_put inner n (entry.Subprogram (profile inner.known (Front d formals result))) refl (groups_put formals (with_result n result c) (result_put n result c are))
-  front_put front c are = are
+      other_put inner n (entry.Subprogram (profile inner.known (Front d formals result))) refl (groups_put formals (with_result n result c) (result_put n result c are)))
+      (λ front other c are. rw (front_end front c other) (are))
 
   formals_put : (front : Code) (c : Context) → AreParts c → AreParts (with_formals front c)
-  formals_put (Front d formals result) c are = groups_put formals c are
-  formals_put front c are = are
+  formals_put = on_front (λ front. (c : Context) → AreParts c → AreParts (with_formals front c))
+      (λ d formals result c are.
+      groups_put formals c are)
+      (λ front other c are. rw (formals_end front c other) (are))
 
   body_put : (front : Code) (c : Context) → AreParts c → AreParts (with_body_front front c)
   body_put front c are = by (is_subprogram (entry_of c.known (front_number front)))

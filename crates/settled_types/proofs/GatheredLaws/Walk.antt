@@ -17,6 +17,7 @@ use Rattle.machine.specs.type_definitions.Types.{Table, info, info_found, base, 
 use Rattle.machine.specs.type_definitions.Entries.{entry_of, is_type, marked, type_of_mark, type_of_entry}
 use Rattle.machine.specs.type_definitions.Names.{Context}
 use Rattle.machine.specs.type_definitions.Gathered.{gather, defined, awaited_info, full_info, subtype_info, meant_by, constrained_shape, bound_pair, is_asked, are_static_bounds, constant_value, initial_value, with_type, own_info, with_indication, each, with_object, with_formal, with_formal_group, with_formals, with_result, with_front, with_body_front, is_subprogram, front_number, declared_number, declared_pos, in_hidden}
+use Rattle.settled_types.proofs.Cases.{each_end, formals_end, front_end, group_end, indication_end, on_access, on_front, on_group, on_more, result_end}
 use Rattle.settled_types.specs.Wholes.{written}
 use Rattle.settled_types.specs.Orderly.{Past, with_defined, definition_marks, within, past_after, IsNew, AllNew, NewGroup, NewFormals, NewFront, Completes, Orderly}
 use Rattle.settled_types.specs.Stamped.{IsType, AreRows, LeadsTo}
@@ -310,10 +311,11 @@ module _ (final : Known) (count : ℕ) (all : List ℕ) (start : Table)
 
     indication_based : (d : ℕ) (i : Code) (p : Past) (c : Context) → IsNew count d p → AllViews views (indicated_numbers i (d ∷ [])) → Based p c.known.table
         → Based p (with_indication d i c).known.table
-    indication_based d (Anonymous at constant m) p c new are b =
+    indication_based d = on_access (λ i. (p : Past) → (c : Context) → IsNew count d p → AllViews views (indicated_numbers i (d ∷ [])) → Based p c.known.table → Based p (with_indication d i c).known.table)
+        (λ at constant m p c new are b.
         view_put rule Final views start p.awaited p.defined c.known.table d (own_info (shape.Access (marked c.known m) constant false) d) b
-        (not_type count d p new) (are d (inl refl))
-    indication_based d i p c new are b = b
+        (not_type count d p new) (are d (inl refl)))
+        (λ i other p c new are b. rw (indication_end d i c other) (b))
 
     one_view : (i : Code) (n : ℕ) (ns : List ℕ) → AllViews views (indicated_numbers i (n ∷ ns)) → AllViews views (indicated_numbers i (n ∷ []))
     one_view (Anonymous at constant m) n ns are d has = elim has [ inl same ↦ are d (inl same) | inr never ↦ absurd never ]
@@ -325,52 +327,61 @@ module _ (final : Known) (count : ℕ) (all : List ℕ) (start : Table)
 
     objects_based : (constant : Bool) (i : Code) (v : InitialValue) (ids : Code) (p : Past) (c : Context) → AllNew count ids p → AllViews views (indicated_numbers i (all_numbers ids))
         → Based p c.known.table → Based p (each (with_object constant i v) ids c).known.table
-    objects_based constant i v (More d rest) p c new are b =
+    objects_based constant i v = on_more (λ ids. (p : Past) → (c : Context) → AllNew count ids p → AllViews views (indicated_numbers i (all_numbers ids)) → Based p c.known.table → Based p (each (with_object constant i v) ids c).known.table)
+        (λ d rest next p c new are b.
         let n : ℕ = declared_number d in
-        objects_based constant i v rest p (with_object constant i v d c) new.1 (more_views i n (all_numbers rest) are)
-        (indication_based n i p c new.0 (one_view i n (all_numbers rest) are) b)
-    objects_based constant i v ids p c new are b = b
+        next p (with_object constant i v d c) new.1 (more_views i n (all_numbers rest) are)
+        (indication_based n i p c new.0 (one_view i n (all_numbers rest) are) b))
+        (λ ids other p c new are b. rw (each_end (with_object constant i v) ids c other) (b))
 
     names_based : (of ids : Code) (p : Past) (c : Context) → AllNew count ids p → AllViews views (indicated_numbers of (all_numbers ids))
         → Based p c.known.table → Based p (each (with_formal of) ids c).known.table
-    names_based of (More d rest) p c new are b =
+    names_based of = on_more (λ ids. (p : Past) → (c : Context) → AllNew count ids p → AllViews views (indicated_numbers of (all_numbers ids)) → Based p c.known.table → Based p (each (with_formal of) ids c).known.table)
+        (λ d rest next p c new are b.
         let n : ℕ = declared_number d in
-        names_based of rest p (with_formal of d c) new.1 (more_views of n (all_numbers rest) are)
-        (indication_based n of p c new.0 (one_view of n (all_numbers rest) are) b)
-    names_based of ids p c new are b = b
+        next p (with_formal of d c) new.1 (more_views of n (all_numbers rest) are)
+        (indication_based n of p c new.0 (one_view of n (all_numbers rest) are) b))
+        (λ ids other p c new are b. rw (each_end (with_formal of) ids c other) (b))
 
     group_based : (group : Code) (p : Past) (c : Context) → NewGroup count group p → AllViews views (group_numbers group) → Based p c.known.table
         → Based p (with_formal_group group c).known.table
-    group_based (Formals names m of) p c new are b = names_based of names p c new are b
-    group_based group p c new are b = b
+    group_based = on_group (λ group. (p : Past) → (c : Context) → NewGroup count group p → AllViews views (group_numbers group) → Based p c.known.table → Based p (with_formal_group group c).known.table)
+        (λ names m of p c new are b.
+        names_based of names p c new are b)
+        (λ group other p c new are b. rw (group_end group c other) (b))
 
     groups_based : (formals : Code) (p : Past) (c : Context) → NewFormals count formals p → AllViews views (flat_map group_numbers (code_items formals)) → Based p c.known.table
         → Based p (each with_formal_group formals c).known.table
-    groups_based (More group rest) p c new are b =
-        groups_based rest p (with_formal_group group c) new.1 (λ d has. are d (Has-append_right (group_numbers group) (flat_map group_numbers (code_items rest)) d has))
-        (group_based group p c new.0 (λ d has. are d (Has-append_left (group_numbers group) (flat_map group_numbers (code_items rest)) d has)) b)
-    groups_based formals p c new are b = b
+    groups_based = on_more (λ formals. (p : Past) → (c : Context) → NewFormals count formals p → AllViews views (flat_map group_numbers (code_items formals)) → Based p c.known.table → Based p (each with_formal_group formals c).known.table)
+        (λ group rest next p c new are b.
+        next p (with_formal_group group c) new.1 (λ d has. are d (Has-append_right (group_numbers group) (flat_map group_numbers (code_items rest)) d has))
+        (group_based group p c new.0 (λ d has. are d (Has-append_left (group_numbers group) (flat_map group_numbers (code_items rest)) d has)) b))
+        (λ formals other p c new are b. rw (each_end with_formal_group formals c other) (b))
 
     result_based : (d : ℕ) (result : Code) (p : Past) (c : Context) → IsNew count d p → AllViews views (result_numbers d result) → Based p c.known.table
         → Based p (with_result d result c).known.table
-    result_based d (More i rest) p c new are b = indication_based d i p c new are b
-    result_based d result p c new are b = b
+    result_based d = on_more (λ result. (p : Past) → (c : Context) → IsNew count d p → AllViews views (result_numbers d result) → Based p c.known.table → Based p (with_result d result c).known.table)
+        (λ i rest _ p c new are b.
+        indication_based d i p c new are b)
+        (λ result other p c new are b. rw (result_end d result c other) (b))
 
     front_based : (front : Code) (p : Past) (c : Context) → NewFront count front p → AllViews views (front_numbers front) → Based p c.known.table
         → Based p (with_front front c).known.table
-    front_based (Front d formals result) p c new are b =
+    front_based = on_front (λ front. (p : Past) → (c : Context) → NewFront count front p → AllViews views (front_numbers front) → Based p c.known.table → Based p (with_front front c).known.table)
+        (λ d formals result p c new are b.
         let n : ℕ = declared_number d in
         let fs : List ℕ = flat_map group_numbers (code_items formals) in
         groups_based formals p (with_result n result c) new.1 (λ m has. are m (Has-append_right (result_numbers n result) fs m has))
-        (result_based n result p c new.0 (λ m has. are m (Has-append_left (result_numbers n result) fs m has)) b)
-    front_based front p c new are b = b
+        (result_based n result p c new.0 (λ m has. are m (Has-append_left (result_numbers n result) fs m has)) b))
+        (λ front other p c new are b. rw (front_end front c other) (b))
 
     formals_based : (front : Code) (p : Past) (c : Context) → NewFront count front p → AllViews views (front_numbers front) → Based p c.known.table
         → Based p (with_formals front c).known.table
-    formals_based (Front d formals result) p c new are b =
+    formals_based = on_front (λ front. (p : Past) → (c : Context) → NewFront count front p → AllViews views (front_numbers front) → Based p c.known.table → Based p (with_formals front c).known.table)
+        (λ d formals result p c new are b.
         groups_based formals p c new.1
-        (λ m has. are m (Has-append_right (result_numbers (declared_number d) result) (flat_map group_numbers (code_items formals)) m has)) b
-    formals_based front p c new are b = b
+        (λ m has. are m (Has-append_right (result_numbers (declared_number d) result) (flat_map group_numbers (code_items formals)) m has)) b)
+        (λ front other p c new are b. rw (formals_end front c other) (b))
 
     body_based : (front : Code) (p : Past) (c : Context) → NewFront count front p → AllViews views (front_numbers front) → Based p c.known.table
         → Based p (with_body_front front c).known.table

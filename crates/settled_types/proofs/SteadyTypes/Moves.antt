@@ -12,6 +12,7 @@ use Rattle.machine.specs.type_definitions.Types.{untyped}
 use Rattle.machine.specs.type_definitions.Entries.{entry_of, type_of_entry, type_of_mark, marked}
 use Rattle.machine.specs.type_definitions.Names.{Context}
 use Rattle.machine.specs.type_definitions.Gathered.{each, declared_number, own_info, indicated, with_entry, with_info, with_indication, with_literals, with_definition, with_object, object_info, with_number, number_info, plain_object, with_formal, with_formal_group, with_result, is_subprogram, component_group, component_groups, component_list, defined}
+use Rattle.settled_types.proofs.Cases.{definition_end, each_end, group_end, indication_end, on_access, on_enumeration, on_group, on_more, result_end}
 use Rattle.settled_types.specs.SteadyTypes.Alike.{outline}
 
 -- ---- classes of entries
@@ -77,9 +78,10 @@ type_put d i j one two =
 
 moves_each : (f g : Code → Context → Context) → ((a : Code) (one two : Context) → Moves one two (f a one) (g a two)) → (ids : Code) (one two : Context)
     → Moves one two (each f ids one) (each g ids two)
-moves_each f g moves (More a rest) one two =
-    and_then one two (f a one) (g a two) (each f rest (f a one)) (each g rest (g a two)) (moves a one two) (moves_each f g moves rest (f a one) (g a two))
-moves_each f g moves ids one two = stay one two
+moves_each f g moves = on_more (λ ids. (one : Context) → (two : Context) → Moves one two (each f ids one) (each g ids two))
+    (λ a rest next one two.
+    and_then one two (f a one) (g a two) (each f rest (f a one)) (each g rest (g a two)) (moves a one two) (next (f a one) (g a two)))
+    (λ ids other one two. rw (each_end f ids one other) rw (each_end g ids two other) (stay one two))
 
 literals_move : (t n : ℕ) (ids : Code) (one two : Context) → Moves one two (with_literals t n ids one) (with_literals t n ids two)
 literals_move t n (More d rest) one two =
@@ -91,14 +93,16 @@ literals_move t n ids one two = stay one two
 
 pub definition_moves : (t : ℕ) (def : Code) (one two more_one more_two : Context) → Moves one two more_one more_two
     → Moves one two (with_definition t def more_one) (with_definition t def more_two)
-definition_moves t (Enumeration literals) one two more_one more_two moves =
-    and_then one two more_one more_two (with_literals t 0 literals more_one) (with_literals t 0 literals more_two) moves (literals_move t 0 literals more_one more_two)
-definition_moves t def one two more_one more_two moves = moves
+definition_moves t = on_enumeration (λ def. (one : Context) → (two : Context) → (more_one : Context) → (more_two : Context) → Moves one two more_one more_two → Moves one two (with_definition t def more_one) (with_definition t def more_two))
+    (λ literals one two more_one more_two moves.
+    and_then one two more_one more_two (with_literals t 0 literals more_one) (with_literals t 0 literals more_two) moves (literals_move t 0 literals more_one more_two))
+    (λ def other one two more_one more_two moves. rw (definition_end t def more_one other) rw (definition_end t def more_two other) (moves))
 
 pub indication_moves : (d : ℕ) (i : Code) (one two : Context) → Moves one two (with_indication d i one) (with_indication d i two)
-indication_moves d (Anonymous p constant m) one two =
-    row d (own_info (shape.Access (marked one.known m) constant false) d) (own_info (shape.Access (marked two.known m) constant false) d) one two
-indication_moves d i one two = stay one two
+indication_moves d = on_access (λ i. (one : Context) → (two : Context) → Moves one two (with_indication d i one) (with_indication d i two))
+    (λ p constant m one two.
+    row d (own_info (shape.Access (marked one.known m) constant false) d) (own_info (shape.Access (marked two.known m) constant false) d) one two)
+    (λ i other one two. rw (indication_end d i one other) rw (indication_end d i two other) (stay one two))
 
 pub object_moves : (constant : Bool) (i : Code) (v w : InitialValue) (d : Code) (one two : Context) → Moves one two (with_object constant i v d one) (with_object constant i w d two)
 object_moves constant i v w d one two =
@@ -125,12 +129,16 @@ formal_moves of d one two =
     (with_indication n of one) (with_indication n of two) refl)
 
 pub group_moves : (group : Code) (one two : Context) → Moves one two (with_formal_group group one) (with_formal_group group two)
-group_moves (Formals names m of) one two = moves_each (with_formal of) (with_formal of) (formal_moves of) names one two
-group_moves group one two = stay one two
+group_moves = on_group (λ group. (one : Context) → (two : Context) → Moves one two (with_formal_group group one) (with_formal_group group two))
+    (λ names m of one two.
+    moves_each (with_formal of) (with_formal of) (formal_moves of) names one two)
+    (λ group other one two. rw (group_end group one other) rw (group_end group two other) (stay one two))
 
 pub result_moves : (d : ℕ) (result : Code) (one two : Context) → Moves one two (with_result d result one) (with_result d result two)
-result_moves d (More i rest) one two = indication_moves d i one two
-result_moves d result one two = stay one two
+result_moves d = on_more (λ result. (one : Context) → (two : Context) → Moves one two (with_result d result one) (with_result d result two))
+    (λ i rest _ one two.
+    indication_moves d i one two)
+    (λ result other one two. rw (result_end d result one other) rw (result_end d result two other) (stay one two))
 
 abbrev as_subprogram : ℕ → Bool
 as_subprogram zero = false

@@ -22,6 +22,7 @@ use Rattle.machine.specs.type_definitions.Entries.{entry_of, is_type, marked, ty
 use Rattle.machine.specs.type_definitions.Names.{Context}
 use Rattle.machine.specs.type_definitions.Gathered.{gather, awaited_info, full_info, subtype_info, meant_by, constrained_shape, bound_pair, is_asked, are_static_bounds, constant_value, initial_value, instance_type, each, own_info, with_object, with_entry, with_type, with_indication, with_formal, with_formal_group, with_formals, with_result, with_front, with_body_front, profile, is_subprogram, front_number, plain_object, parameter_type, declared_number, declared_pos, defined}
 use Rattle.machine.specs.type_definitions.Whole.{predefined_types}
+use Rattle.settled_types.proofs.Cases.{each_end, formals_end, front_end, group_end, indication_end, on_access, on_front, on_group, on_more, result_end}
 use Rattle.settled_types.specs.Wholes.{written}
 use Rattle.settled_types.specs.Orderly.{Past, with_defined, definition_marks, past_after, IsNew, NewOne, AllNew, NewGroup, NewFormals, NewFront, Orderly}
 use Rattle.settled_types.specs.Stamped.{IsType, IsFixed, AreRows}
@@ -377,13 +378,14 @@ module _ (final : Known) (count : ℕ) (all : List ℕ) (start : Table)
 
   objects_step : (constant : Bool) (i : Code) (v w : InitialValue) (ids : Code) (p : Past) (one two : Context) → AllNew count ids p → Own p one.known.table → Like one two
       → AreKeptAt T constant i v ids one → Step p one two p (each (with_object constant i v) ids one) (each (with_object constant i w) ids two) (Unit {0})
-  objects_step constant i v w (More d rest) p one two new own like kept =
+  objects_step constant i v w = on_more (λ ids. (p : Past) → (one : Context) → (two : Context) → AllNew count ids p → Own p one.known.table → Like one two → AreKeptAt T constant i v ids one → Step p one two p (each (with_object constant i v) ids one) (each (with_object constant i w) ids two) (Unit {0}))
+      (λ d rest next p one two new own like kept.
       let a : Context = with_object constant i v d one in
       let b : Context = with_object constant i w d two in
       let s = object_step constant i v w d p one two new.0 own like kept.0 in
       and_step p one two a b (each (with_object constant i v) rest a) (each (with_object constant i w) rest b) s
-      (objects_step constant i v w rest p a b new.1 s.own s.like kept.1)
-  objects_step constant i v w ids p one two new own like kept = stay_step p one two own like
+      (next p a b new.1 s.own s.like kept.1))
+      (λ ids other p one two new own like kept. rw (each_end (with_object constant i v) ids one other) rw (each_end (with_object constant i w) ids two other) (stay_step p one two own like))
 
   -- ---- fronts
 
@@ -398,43 +400,51 @@ module _ (final : Known) (count : ℕ) (all : List ℕ) (start : Table)
 
   names_step : (of names : Code) (p : Past) (one two : Context) → AllNew count names p → Own p one.known.table → Like one two → AreKeptNames T of names one
       → Step p one two p (each (with_formal of) names one) (each (with_formal of) names two) (Unit {0})
-  names_step of (More d rest) p one two new own like kept =
+  names_step of = on_more (λ names. (p : Past) → (one : Context) → (two : Context) → AllNew count names p → Own p one.known.table → Like one two → AreKeptNames T of names one → Step p one two p (each (with_formal of) names one) (each (with_formal of) names two) (Unit {0}))
+      (λ d rest next p one two new own like kept.
       let a : Context = with_formal of d one in
       let b : Context = with_formal of d two in
       let s = formal_step of d p one two new.0 own like kept.0 in
-      and_step p one two a b (each (with_formal of) rest a) (each (with_formal of) rest b) s (names_step of rest p a b new.1 s.own s.like kept.1)
-  names_step of names p one two new own like kept = stay_step p one two own like
+      and_step p one two a b (each (with_formal of) rest a) (each (with_formal of) rest b) s (next p a b new.1 s.own s.like kept.1))
+      (λ names other p one two new own like kept. rw (each_end (with_formal of) names one other) rw (each_end (with_formal of) names two other) (stay_step p one two own like))
 
   group_step : (group : Code) (p : Past) (one two : Context) → NewGroup count group p → Own p one.known.table → Like one two → IsKeptGroup T group one
       → Step p one two p (with_formal_group group one) (with_formal_group group two) (Unit {0})
-  group_step (Formals names m of) p one two new own like kept = names_step of names p one two new own like kept
-  group_step group p one two new own like kept = stay_step p one two own like
+  group_step = on_group (λ group. (p : Past) → (one : Context) → (two : Context) → NewGroup count group p → Own p one.known.table → Like one two → IsKeptGroup T group one → Step p one two p (with_formal_group group one) (with_formal_group group two) (Unit {0}))
+      (λ names m of p one two new own like kept.
+      names_step of names p one two new own like kept)
+      (λ group other p one two new own like kept. rw (group_end group one other) rw (group_end group two other) (stay_step p one two own like))
 
   groups_step : (formals : Code) (p : Past) (one two : Context) → NewFormals count formals p → Own p one.known.table → Like one two → AreKeptGroups T formals one
       → Step p one two p (each with_formal_group formals one) (each with_formal_group formals two) (Unit {0})
-  groups_step (More group rest) p one two new own like kept =
+  groups_step = on_more (λ formals. (p : Past) → (one : Context) → (two : Context) → NewFormals count formals p → Own p one.known.table → Like one two → AreKeptGroups T formals one → Step p one two p (each with_formal_group formals one) (each with_formal_group formals two) (Unit {0}))
+      (λ group rest next p one two new own like kept.
       let a : Context = with_formal_group group one in
       let b : Context = with_formal_group group two in
       let s = group_step group p one two new.0 own like kept.0 in
-      and_step p one two a b (each with_formal_group rest a) (each with_formal_group rest b) s (groups_step rest p a b new.1 s.own s.like kept.1)
-  groups_step formals p one two new own like kept = stay_step p one two own like
+      and_step p one two a b (each with_formal_group rest a) (each with_formal_group rest b) s (next p a b new.1 s.own s.like kept.1))
+      (λ formals other p one two new own like kept. rw (each_end with_formal_group formals one other) rw (each_end with_formal_group formals two other) (stay_step p one two own like))
 
   indication_step : (d : ℕ) (i : Code) (p : Past) (one two : Context) → IsNew count d p → Own p one.known.table → Like one two → IsKeptAt T d i one
       → Step p one two p (with_indication d i one) (with_indication d i two) (Unit {0})
-  indication_step d (Anonymous at b m) p one two new own like kept =
+  indication_step d = on_access (λ i. (p : Past) → (one : Context) → (two : Context) → IsNew count d p → Own p one.known.table → Like one two → IsKeptAt T d i one → Step p one two p (with_indication d i one) (with_indication d i two) (Unit {0}))
+      (λ at b m p one two new own like kept.
       view_step d (marked one.known m) (marked two.known m) b p one two (with_indication d (Anonymous at b m) one) (with_indication d (Anonymous at b m) two)
       new.2 new.3 own like (indication_moves d (Anonymous at b m) one two) refl refl
-      (kept ∙ ap (λ t. row_of (shape.Access t b false) d None) (mark_same one two m like))
-  indication_step d i p one two new own like kept = stay_step p one two own like
+      (kept ∙ ap (λ t. row_of (shape.Access t b false) d None) (mark_same one two m like)))
+      (λ i other p one two new own like kept. rw (indication_end d i one other) rw (indication_end d i two other) (stay_step p one two own like))
 
   result_step : (d : ℕ) (result : Code) (p : Past) (one two : Context) → IsNew count d p → Own p one.known.table → Like one two → IsKeptResult T d result one
       → Step p one two p (with_result d result one) (with_result d result two) (Unit {0})
-  result_step d (More i rest) p one two new own like kept = indication_step d i p one two new own like kept
-  result_step d result p one two new own like kept = stay_step p one two own like
+  result_step d = on_more (λ result. (p : Past) → (one : Context) → (two : Context) → IsNew count d p → Own p one.known.table → Like one two → IsKeptResult T d result one → Step p one two p (with_result d result one) (with_result d result two) (Unit {0}))
+      (λ i rest _ p one two new own like kept.
+      indication_step d i p one two new own like kept)
+      (λ result other p one two new own like kept. rw (result_end d result one other) rw (result_end d result two other) (stay_step p one two own like))
 
   front_step : (front : Code) (p : Past) (one two : Context) → NewFront count front p → Own p one.known.table → Like one two → IsKeptFront T front one
       → Step p one two p (with_front front one) (with_front front two) (Unit {0})
-  front_step (Front d formals result) p one two new own like kept =
+  front_step = on_front (λ front. (p : Past) → (one : Context) → (two : Context) → NewFront count front p → Own p one.known.table → Like one two → IsKeptFront T front one → Step p one two p (with_front front one) (with_front front two) (Unit {0}))
+      (λ d formals result p one two new own like kept.
       let n : ℕ = declared_number d in
       let front : Code = Front d formals result in
       let a : Context = with_result n result one in
@@ -446,13 +456,15 @@ module _ (final : Known) (count : ℕ) (all : List ℕ) (start : Table)
       let x : Entry = entry.Subprogram (profile e.known front) in
       let y : Entry = entry.Subprogram (profile f.known front) in
       and_step p one two e f (with_entry n x e) (with_entry n y f) (and_step p one two a b e f s u)
-      (quiet p e f (with_entry n x e) (with_entry n y f) u.own u.like (put n x y e f refl) refl refl)
-  front_step front p one two new own like kept = stay_step p one two own like
+      (quiet p e f (with_entry n x e) (with_entry n y f) u.own u.like (put n x y e f refl) refl refl))
+      (λ front other p one two new own like kept. rw (front_end front one other) rw (front_end front two other) (stay_step p one two own like))
 
   formals_step : (front : Code) (p : Past) (one two : Context) → NewFront count front p → Own p one.known.table → Like one two → AreKeptFormals T front one
       → Step p one two p (with_formals front one) (with_formals front two) (Unit {0})
-  formals_step (Front d formals result) p one two new own like kept = groups_step formals p one two new.1 own like kept
-  formals_step front p one two new own like kept = stay_step p one two own like
+  formals_step = on_front (λ front. (p : Past) → (one : Context) → (two : Context) → NewFront count front p → Own p one.known.table → Like one two → AreKeptFormals T front one → Step p one two p (with_formals front one) (with_formals front two) (Unit {0}))
+      (λ d formals result p one two new own like kept.
+      groups_step formals p one two new.1 own like kept)
+      (λ front other p one two new own like kept. rw (formals_end front one other) rw (formals_end front two other) (stay_step p one two own like))
 
   body_step : (front : Code) (p : Past) (one two : Context) → NewFront count front p → Own p one.known.table → Like one two → IsKeptBody T front one
       → Step p one two p (with_body_front front one) (with_body_front front two) (Unit {0})
