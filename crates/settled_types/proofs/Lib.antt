@@ -1,3 +1,4 @@
+pub mod TypedCases
 pub mod Cases
 pub mod Counts
 pub mod Ringless

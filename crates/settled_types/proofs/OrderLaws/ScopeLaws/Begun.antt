@@ -16,6 +16,7 @@ use Rattle.machine.specs.flow_paths.Points.{Place, PointName, row_at, NamedPoint
 use Rattle.machine.specs.flow_paths.Prep.{Setting, with_held, prep}
 use Rattle.machine.specs.flow_paths.Layout.{Around, within_loop, within_block, with_scope, declared, ending, ends, uses, uses_both, laid, laid_branches, laid_branch, laid_whens, laid_when}
 use Rattle.machine.specs.flow_paths.Laid.{declared_within, around_body, scope_at_end, function_end, procedure_end, sub_points, elaboration_points}
+use Rattle.settled_types.proofs.TypedCases.{Laws, branch_none, branches_none, laid_none, on_code, when_none, whens_none}
 use Rattle.settled_types.proofs.OrderLaws.ScopeLaws.Lists.{all_both, all_one, all_if, all_has, has_reverse}
 
 abbrev pub Begins : (ℕ → Type 0) → Instruction → Type 0
@@ -93,68 +94,75 @@ module _ (s : Setting) (P : ℕ → Type 0) where
   abbrev IsFine : Around → Type 0
   IsFine w = AllOf w.in_loop × AllOf w.in_all
 
-  mutual
-    unfolding laid laid_branches laid_branch laid_whens laid_when declared_within
-
-    laid_begun : (c : TypedCode) (at : Place) (w : Around) (k : List PointName) → AllOf (declared_within c) → IsFine w → Begun (laid s c at w k)
-    laid_begun (typed.More a rest) at w k all fine =
-        both (laid s a (0 ∷ at) w _) _ (laid_begun a (0 ∷ at) w _ (λ x has. all x (Has-append_left (declared_within a) (declared_within rest) x has)) fine)
-        (laid_begun rest (1 ∷ at) (with_scope (declared a) w) k (λ x has. all x (Has-append_right (declared_within a) (declared_within rest) x has)) fine)
-    laid_begun (Declare p x v) at w k all fine = uses_begun at p v (instruction.Declare x v) w k (all x (inl refl))
-    laid_begun (Assign p target e) at w k all fine =
+  laid_begun_cases : Laws (λ c. (at : Place) → (w : Around) → (k : List PointName) → AllOf (declared_within c) → IsFine w → Begun (laid s c at w k))
+      (λ c. (at : Place) → (w : Around) → (k : List PointName) → (m : List PointName) → AllOf (declared_within c) → IsFine w → Begun (laid_branches s c at w k m))
+      (λ c. (at : Place) → (w : Around) → (k : List PointName) → (m : List PointName) → AllOf (declared_within c) → IsFine w → Begun (laid_branch s c at w k m))
+      (λ c. (at : Place) → (w : Around) → (k : List PointName) → AllOf (declared_within c) → IsFine w → Begun (flat_map (λ ps. ps) (laid_whens s c at w k)))
+      (λ c. (at : Place) → (w : Around) → (k : List PointName) → AllOf (declared_within c) → IsFine w → Begun (laid_when s c at w k))
+  unfolding laid laid_branches laid_branch laid_whens laid_when declared_within
+  laid_begun_cases = record {
+    list = λ a rest by_a by_rest at w k all fine.
+        both (laid s a (0 ∷ at) w _) _ (by_a (0 ∷ at) w _ (λ x has. all x (Has-append_left (declared_within a) (declared_within rest) x has)) fine)
+        (by_rest (1 ∷ at) (with_scope (declared a) w) k (λ x has. all x (Has-append_right (declared_within a) (declared_within rest) x has)) fine);
+    declare = λ p x v at w k all fine.
+        uses_begun at p v (instruction.Declare x v) w k (all x (inl refl));
+    assign = λ p target e at w k all fine.
         one_more (prep s e (1 ∷ at) w.scope _ ++ prep s target (0 ∷ at) (with_held s e (1 ∷ at) w.scope) _) _
-        (both (prep s e (1 ∷ at) w.scope _) _ (prep_begun e (1 ∷ at) w.scope _) (prep_begun target (0 ∷ at) (with_held s e (1 ∷ at) w.scope) _)) tt
-    laid_begun (Skip p) at w k all fine = (tt, tt)
-    laid_begun (typed.Call p sub actuals) at w k all fine = uses_begun at p actuals (instruction.Call sub actuals None) w k tt
-    laid_begun (Output p text line) at w k all fine = uses_begun at p text (instruction.Output text line) w k tt
-    laid_begun (Input p target) at w k all fine = uses_begun at p target (instruction.Input target) w k tt
-    laid_begun (Release p m) at w k all fine = uses_begun at p m (instruction.Release m) w k tt
-    laid_begun (If branches otherwise) at w k all fine =
+        (both (prep s e (1 ∷ at) w.scope _) _ (prep_begun e (1 ∷ at) w.scope _) (prep_begun target (0 ∷ at) (with_held s e (1 ∷ at) w.scope) _)) tt;
+    skip = λ p at w k all fine.
+        (tt, tt);
+    call = λ p sub actuals at w k all fine.
+        uses_begun at p actuals (instruction.Call sub actuals None) w k tt;
+    output = λ p text line at w k all fine.
+        uses_begun at p text (instruction.Output text line) w k tt;
+    input = λ p target at w k all fine.
+        uses_begun at p target (instruction.Input target) w k tt;
+    release = λ p m at w k all fine.
+        uses_begun at p m (instruction.Release m) w k tt;
+    choice = λ branches otherwise by_branches by_otherwise at w k all fine.
         both (laid_branches s branches (0 ∷ at) w k _) _
-        (branches_begun branches (0 ∷ at) w k _ (λ x has. all x (Has-append_left (declared_within branches) (declared_within otherwise) x has)) fine)
-        (laid_begun otherwise (1 ∷ at) w k (λ x has. all x (Has-append_right (declared_within branches) (declared_within otherwise) x has)) fine)
-    laid_begun (Case p e whens) at w k all fine = both (uses s at p e _ w _) _ (uses_begun at p e _ w _ tt) (whens_begun whens (1 ∷ at) w k all fine)
-    laid_begun (Loop stmts) at w k all fine = laid_begun stmts (0 ∷ at) (within_loop k w) _ all ((λ x has. absurd has), fine.1)
-    laid_begun (While p e stmts) at w k all fine =
-        both (uses s at p e (instruction.Test e) w _) _ (uses_begun at p e (instruction.Test e) w _ tt) (laid_begun stmts (1 ∷ at) (within_loop k w) _ all ((λ x has. absurd has), fine.1))
-    laid_begun (For p x reversed low high stmts) at w k all fine =
+        (by_branches (0 ∷ at) w k _ (λ x has. all x (Has-append_left (declared_within branches) (declared_within otherwise) x has)) fine)
+        (by_otherwise (1 ∷ at) w k (λ x has. all x (Has-append_right (declared_within branches) (declared_within otherwise) x has)) fine);
+    cases = λ p e whens by_whens at w k all fine.
+        both (uses s at p e _ w _) _ (uses_begun at p e _ w _ tt) (by_whens (1 ∷ at) w k all fine);
+    loop = λ stmts by_stmts at w k all fine.
+        by_stmts (0 ∷ at) (within_loop k w) _ all ((λ x has. absurd has), fine.1);
+    while = λ p e stmts by_stmts at w k all fine.
+        both (uses s at p e (instruction.Test e) w _) _ (uses_begun at p e (instruction.Test e) w _ tt) (by_stmts (1 ∷ at) (within_loop k w) _ all ((λ x has. absurd has), fine.1));
+    for = λ p x reversed low high stmts by_stmts at w k all fine.
         both (uses_both s at p low high (instruction.Start x reversed low high) w _) _
         (one_more (prep s low (0 ∷ at) w.scope _ ++ prep s high (1 ∷ at) (with_held s low (0 ∷ at) w.scope) _) _
         (both (prep s low (0 ∷ at) w.scope _) _ (prep_begun low (0 ∷ at) w.scope _) (prep_begun high (1 ∷ at) (with_held s low (0 ∷ at) w.scope) _)) tt)
-        (tt, laid_begun stmts (2 ∷ at) (with_scope (x ∷ []) (within_loop k w)) _ (λ y has. all y (inr has)) ((λ y has. absurd has), fine.1))
-    laid_begun (Exit p e) at w k all fine =
-        both (uses s at p e (instruction.LeaveLoop e) w _) _ (uses_begun at p e (instruction.LeaveLoop e) w _ tt) (ends_begun at 1 p w.in_loop w.scope w.leave fine.0)
-    laid_begun (Return p v) at w k all fine =
+        (tt, by_stmts (2 ∷ at) (with_scope (x ∷ []) (within_loop k w)) _ (λ y has. all y (inr has)) ((λ y has. absurd has), fine.1));
+    exit = λ p e at w k all fine.
+        both (uses s at p e (instruction.LeaveLoop e) w _) _ (uses_begun at p e (instruction.LeaveLoop e) w _ tt) (ends_begun at 1 p w.in_loop w.scope w.leave fine.0);
+    return = λ p v at w k all fine.
         both (uses s at p v (instruction.Hold v) w _) _ (uses_begun at p v (instruction.Hold v) w _ tt)
-        (one_more (ends at 1 p w.in_all w.scope _) _ (ends_begun at 1 p w.in_all w.scope _ fine.1) tt)
-    laid_begun (Block n stmts end) at w k all fine =
+        (one_more (ends at 1 p w.in_all w.scope _) _ (ends_begun at 1 p w.in_all w.scope _ fine.1) tt);
+    block = λ n stmts end by_stmts at w k all fine.
         both (laid s stmts (0 ∷ at) (within_block (ending s stmts) w) _) _
-        (laid_begun stmts (0 ∷ at) (within_block (ending s stmts) w) _ all
+        (by_stmts (0 ∷ at) (within_block (ending s stmts) w) _ all
         (all_of_both (ending s stmts) w.in_loop (ending_all stmts all) fine.0, all_of_both (ending s stmts) w.in_all (ending_all stmts all) fine.1))
-        (ends_begun at 0 end (ending s stmts) (reverse (declared stmts) ++ w.scope) k (ending_all stmts all))
-    laid_begun _ at w k all fine = tt
+        (ends_begun at 0 end (ending s stmts) (reverse (declared stmts) ++ w.scope) k (ending_all stmts all));
+    others = λ c other at w k all fine. rw (laid_none s c at w k other) (tt);
+    branches = λ a rest by_a by_rest at w k m all fine.
+        both (laid_branch s a (0 ∷ at) w k _) _ (by_a (0 ∷ at) w k _ (λ x has. all x (Has-append_left (declared_within a) (declared_within rest) x has)) fine)
+        (by_rest (1 ∷ at) w k m (λ x has. all x (Has-append_right (declared_within a) (declared_within rest) x has)) fine);
+    no_branches = λ c other at w k m all fine. rw (branches_none s c at w k m other) (tt);
+    branch = λ p e stmts by_stmts at w k m all fine.
+        both (uses s at p e (instruction.Test e) w _) _ (uses_begun at p e (instruction.Test e) w _ tt) (by_stmts (1 ∷ at) w k all fine);
+    no_branch = λ c other at w k m all fine. rw (branch_none s c at w k m other) (tt);
+    alternatives = λ a rest by_a by_rest at w k all fine.
+        both (laid_when s a (0 ∷ at) w k) _ (by_a (0 ∷ at) w k (λ x has. all x (Has-append_left (declared_within a) (declared_within rest) x has)) fine)
+        (by_rest (1 ∷ at) w k (λ x has. all x (Has-append_right (declared_within a) (declared_within rest) x has)) fine);
+    no_alternatives = λ c other at w k all fine. rw (whens_none s c at w k other) (tt);
+    alternative = λ choices stmts by_stmts at w k all fine.
+        by_stmts (1 ∷ at) w k all fine;
+    no_alternative = λ c other at w k all fine. rw (when_none s c at w k other) (tt);
+  }
 
-    branches_begun : (c : TypedCode) (at : Place) (w : Around) (k m : List PointName) → AllOf (declared_within c) → IsFine w → Begun (laid_branches s c at w k m)
-    branches_begun (typed.More a rest) at w k m all fine =
-        both (laid_branch s a (0 ∷ at) w k _) _ (branch_begun a (0 ∷ at) w k _ (λ x has. all x (Has-append_left (declared_within a) (declared_within rest) x has)) fine)
-        (branches_begun rest (1 ∷ at) w k m (λ x has. all x (Has-append_right (declared_within a) (declared_within rest) x has)) fine)
-    branches_begun _ at w k m all fine = tt
-
-    branch_begun : (c : TypedCode) (at : Place) (w : Around) (k m : List PointName) → AllOf (declared_within c) → IsFine w → Begun (laid_branch s c at w k m)
-    branch_begun (Branch p e stmts) at w k m all fine =
-        both (uses s at p e (instruction.Test e) w _) _ (uses_begun at p e (instruction.Test e) w _ tt) (laid_begun stmts (1 ∷ at) w k all fine)
-    branch_begun _ at w k m all fine = tt
-
-    whens_begun : (c : TypedCode) (at : Place) (w : Around) (k : List PointName) → AllOf (declared_within c) → IsFine w
-        → Begun (flat_map (λ ps. ps) (laid_whens s c at w k))
-    whens_begun (typed.More a rest) at w k all fine =
-        both (laid_when s a (0 ∷ at) w k) _ (when_begun a (0 ∷ at) w k (λ x has. all x (Has-append_left (declared_within a) (declared_within rest) x has)) fine)
-        (whens_begun rest (1 ∷ at) w k (λ x has. all x (Has-append_right (declared_within a) (declared_within rest) x has)) fine)
-    whens_begun _ at w k all fine = tt
-
-    when_begun : (c : TypedCode) (at : Place) (w : Around) (k : List PointName) → AllOf (declared_within c) → IsFine w → Begun (laid_when s c at w k)
-    when_begun (When choices stmts) at w k all fine = laid_begun stmts (1 ∷ at) w k all fine
-    when_begun _ at w k all fine = tt
+  laid_begun : (c : TypedCode) (at : Place) (w : Around) (k : List PointName) → AllOf (declared_within c) → IsFine w → Begun (laid s c at w k)
+  laid_begun = on_code laid_begun_cases
 
   end_begun : (sub : TypedSub) (b : Bool) → AllOf (declared_within sub.body) → Begun (if b then function_end sub else procedure_end s sub)
   end_begun sub true all = (tt, tt)

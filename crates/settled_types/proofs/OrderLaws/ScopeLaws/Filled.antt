@@ -19,6 +19,7 @@ use Rattle.machine.specs.flow_paths.Prep.{Setting, prep}
 use Rattle.machine.specs.flow_paths.Layout.{Around, within_loop, within_block, with_scope, declared, from, ending, ends, uses, choices_of, laid, laid_branches, laid_branch, laid_whens, laid_when}
 use Rattle.machine.specs.flow_paths.Laid.{Temporary, temporary_object, filled, temporaries, numbers_from, unnumbered, around_body, scope_at_end, procedure_end, function_end, sub_points, sub_temporaries, NamedSub, named_sub, named_subs}
 use Rattle.machine.specs.flow_paths.Scopes.{is_temporary}
+use Rattle.settled_types.proofs.TypedCases.{Laws, branch_none, branches_none, laid_none, on_code, when_none, whens_none}
 use Rattle.settled_types.specs.OrderLaws.ScopeLaws.Supplied.{FillsOne, IsFilling}
 use Rattle.settled_types.proofs.OrderLaws.ScopeLaws.Lists.{all_both}
 
@@ -120,61 +121,69 @@ module _ (t : Typing) (z u : Setting) where
   ends_walk at row p xs ys scope scope' k k' =
       record { same = ends_none at row p xs scope k ∙ sym (ends_none at row p ys scope' k'); own = ends_own at row p xs scope k }
 
-  mutual
-    unfolding laid laid_branches laid_branch laid_whens laid_when
-
-    laid_walk : (c : TypedCode) (at : Place) (w v : Around) (k l : List PointName) → Walk (laid z c at w k) (laid u c at v l)
-    laid_walk (typed.More a rest) at w v k l =
-        joined (laid z a (0 ∷ at) w _) _ (laid u a (0 ∷ at) v _) _ (laid_walk a (0 ∷ at) w v _ _) (laid_walk rest (1 ∷ at) (with_scope (declared a) w) (with_scope (declared a) v) k l)
-    laid_walk (Declare p x e) at w v k l = uses_walk at p e (instruction.Declare x e) w v k l tt
-    laid_walk (Assign p target e) at w v k l = two_walk (1 ∷ at) (0 ∷ at) e target w.scope v.scope _ _ _ _ (row_at at 0 ∷ []) (row_at at 0 ∷ []) _ _ refl tt
-    laid_walk (Skip p) at w v k l = one _ _ refl tt
-    laid_walk (typed.Call p sub actuals) at w v k l = uses_walk at p actuals (instruction.Call sub actuals None) w v k l tt
-    laid_walk (Output p text line) at w v k l = uses_walk at p text (instruction.Output text line) w v k l tt
-    laid_walk (Input p target) at w v k l = uses_walk at p target (instruction.Input target) w v k l tt
-    laid_walk (Release p m) at w v k l = uses_walk at p m (instruction.Release m) w v k l tt
-    laid_walk (If branches otherwise) at w v k l =
-        joined (laid_branches z branches (0 ∷ at) w k _) _ (laid_branches u branches (0 ∷ at) v l _) _ (branches_walk branches (0 ∷ at) w v k l _ _) (laid_walk otherwise (1 ∷ at) w v k l)
-    laid_walk (Case p e whens) at w v k l =
+  laid_walk_cases : Laws (λ c. (at : Place) → (w : Around) → (v : Around) → (k : List PointName) → (l : List PointName) → Walk (laid z c at w k) (laid u c at v l))
+      (λ c. (at : Place) → (w : Around) → (v : Around) → (k : List PointName) → (l : List PointName) → (m : List PointName) → (n : List PointName) → Walk (laid_branches z c at w k m) (laid_branches u c at v l n))
+      (λ c. (at : Place) → (w : Around) → (v : Around) → (k : List PointName) → (l : List PointName) → (m : List PointName) → (n : List PointName) → Walk (laid_branch z c at w k m) (laid_branch u c at v l n))
+      (λ c. (at : Place) → (w : Around) → (v : Around) → (k : List PointName) → (l : List PointName) → Walk (flat_map (λ ps. ps) (laid_whens z c at w k)) (flat_map (λ ps. ps) (laid_whens u c at v l)))
+      (λ c. (at : Place) → (w : Around) → (v : Around) → (k : List PointName) → (l : List PointName) → Walk (laid_when z c at w k) (laid_when u c at v l))
+  unfolding laid laid_branches laid_branch laid_whens laid_when
+  laid_walk_cases = record {
+    list = λ a rest by_a by_rest at w v k l.
+        joined (laid z a (0 ∷ at) w _) _ (laid u a (0 ∷ at) v _) _ (by_a (0 ∷ at) w v _ _) (by_rest (1 ∷ at) (with_scope (declared a) w) (with_scope (declared a) v) k l);
+    declare = λ p x e at w v k l.
+        uses_walk at p e (instruction.Declare x e) w v k l tt;
+    assign = λ p target e at w v k l.
+        two_walk (1 ∷ at) (0 ∷ at) e target w.scope v.scope _ _ _ _ (row_at at 0 ∷ []) (row_at at 0 ∷ []) _ _ refl tt;
+    skip = λ p at w v k l.
+        one _ _ refl tt;
+    call = λ p sub actuals at w v k l.
+        uses_walk at p actuals (instruction.Call sub actuals None) w v k l tt;
+    output = λ p text line at w v k l.
+        uses_walk at p text (instruction.Output text line) w v k l tt;
+    input = λ p target at w v k l.
+        uses_walk at p target (instruction.Input target) w v k l tt;
+    release = λ p m at w v k l.
+        uses_walk at p m (instruction.Release m) w v k l tt;
+    choice = λ branches otherwise by_branches by_otherwise at w v k l.
+        joined (laid_branches z branches (0 ∷ at) w k _) _ (laid_branches u branches (0 ∷ at) v l _) _ (by_branches (0 ∷ at) w v k l _ _) (by_otherwise (1 ∷ at) w v k l);
+    cases = λ p e whens by_whens at w v k l.
         joined (uses z at p e (instruction.Choose e (choices_of whens)) w _) _ (uses u at p e (instruction.Choose e (choices_of whens)) v _) _
-        (uses_walk at p e (instruction.Choose e (choices_of whens)) w v _ _ tt) (whens_walk whens (1 ∷ at) w v k l)
-    laid_walk (Loop stmts) at w v k l = laid_walk stmts (0 ∷ at) (within_loop k w) (within_loop l v) _ _
-    laid_walk (While p e stmts) at w v k l =
+        (uses_walk at p e (instruction.Choose e (choices_of whens)) w v _ _ tt) (by_whens (1 ∷ at) w v k l);
+    loop = λ stmts by_stmts at w v k l.
+        by_stmts (0 ∷ at) (within_loop k w) (within_loop l v) _ _;
+    while = λ p e stmts by_stmts at w v k l.
         joined (uses z at p e (instruction.Test e) w _) _ (uses u at p e (instruction.Test e) v _) _
-        (uses_walk at p e (instruction.Test e) w v _ _ tt) (laid_walk stmts (1 ∷ at) (within_loop k w) (within_loop l v) _ _)
-    laid_walk (For p x reversed low high stmts) at w v k l =
+        (uses_walk at p e (instruction.Test e) w v _ _ tt) (by_stmts (1 ∷ at) (within_loop k w) (within_loop l v) _ _);
+    for = λ p x reversed low high stmts by_stmts at w v k l.
         joined _ _ _ _
         (two_walk (0 ∷ at) (1 ∷ at) low high w.scope v.scope _ _ _ _ (row_at at 0 ∷ []) (row_at at 0 ∷ []) _ _ refl tt)
-        (following _ _ _ _ refl tt (laid_walk stmts (2 ∷ at) (with_scope (x ∷ []) (within_loop k w)) (with_scope (x ∷ []) (within_loop l v)) (row_at at 1 ∷ []) (row_at at 1 ∷ [])))
-    laid_walk (Exit p e) at w v k l =
+        (following _ _ _ _ refl tt (by_stmts (2 ∷ at) (with_scope (x ∷ []) (within_loop k w)) (with_scope (x ∷ []) (within_loop l v)) (row_at at 1 ∷ []) (row_at at 1 ∷ [])));
+    exit = λ p e at w v k l.
         joined (uses z at p e (instruction.LeaveLoop e) w _) _ (uses u at p e (instruction.LeaveLoop e) v _) _
-        (uses_walk at p e (instruction.LeaveLoop e) w v _ _ tt) (ends_walk at 1 p w.in_loop v.in_loop w.scope v.scope w.leave v.leave)
-    laid_walk (Return p e) at w v k l =
+        (uses_walk at p e (instruction.LeaveLoop e) w v _ _ tt) (ends_walk at 1 p w.in_loop v.in_loop w.scope v.scope w.leave v.leave);
+    return = λ p e at w v k l.
         joined (uses z at p e (instruction.Hold e) w _) _ (uses u at p e (instruction.Hold e) v _) _ (uses_walk at p e (instruction.Hold e) w v _ _ tt)
-        (joined (ends at 1 p w.in_all w.scope _) _ (ends at 1 p v.in_all v.scope _) _ (ends_walk at 1 p w.in_all v.in_all w.scope v.scope _ _) (one _ _ refl tt))
-    laid_walk (Block n stmts end) at w v k l =
+        (joined (ends at 1 p w.in_all w.scope _) _ (ends at 1 p v.in_all v.scope _) _ (ends_walk at 1 p w.in_all v.in_all w.scope v.scope _ _) (one _ _ refl tt));
+    block = λ n stmts end by_stmts at w v k l.
         joined (laid z stmts (0 ∷ at) (within_block (ending z stmts) w) _) _ (laid u stmts (0 ∷ at) (within_block (ending u stmts) v) _) _
-        (laid_walk stmts (0 ∷ at) (within_block (ending z stmts) w) (within_block (ending u stmts) v) _ _) (ends_walk at 0 end (ending z stmts) (ending u stmts) _ _ k l)
-    laid_walk _ at w v k l = nothing
+        (by_stmts (0 ∷ at) (within_block (ending z stmts) w) (within_block (ending u stmts) v) _ _) (ends_walk at 0 end (ending z stmts) (ending u stmts) _ _ k l);
+    others = λ c other at w v k l. rw (laid_none z c at w k other) rw (laid_none u c at v l other) (nothing);
+    branches = λ a rest by_a by_rest at w v k l m n.
+        joined (laid_branch z a (0 ∷ at) w k _) _ (laid_branch u a (0 ∷ at) v l _) _ (by_a (0 ∷ at) w v k l _ _) (by_rest (1 ∷ at) w v k l m n);
+    no_branches = λ c other at w v k l m n. rw (branches_none z c at w k m other) rw (branches_none u c at v l n other) (nothing);
+    branch = λ p e stmts by_stmts at w v k l m n.
+        joined (uses z at p e (instruction.Test e) w _) _ (uses u at p e (instruction.Test e) v _) _ (uses_walk at p e (instruction.Test e) w v _ _ tt) (by_stmts (1 ∷ at) w v k l);
+    no_branch = λ c other at w v k l m n. rw (branch_none z c at w k m other) rw (branch_none u c at v l n other) (nothing);
+    alternatives = λ a rest by_a by_rest at w v k l.
+        joined (laid_when z a (0 ∷ at) w k) _ (laid_when u a (0 ∷ at) v l) _ (by_a (0 ∷ at) w v k l) (by_rest (1 ∷ at) w v k l);
+    no_alternatives = λ c other at w v k l. rw (whens_none z c at w k other) rw (whens_none u c at v l other) (nothing);
+    alternative = λ choices stmts by_stmts at w v k l.
+        by_stmts (1 ∷ at) w v k l;
+    no_alternative = λ c other at w v k l. rw (when_none z c at w k other) rw (when_none u c at v l other) (nothing);
+  }
 
-    branches_walk : (c : TypedCode) (at : Place) (w v : Around) (k l m n : List PointName) → Walk (laid_branches z c at w k m) (laid_branches u c at v l n)
-    branches_walk (typed.More a rest) at w v k l m n =
-        joined (laid_branch z a (0 ∷ at) w k _) _ (laid_branch u a (0 ∷ at) v l _) _ (branch_walk a (0 ∷ at) w v k l _ _) (branches_walk rest (1 ∷ at) w v k l m n)
-    branches_walk _ at w v k l m n = nothing
-
-    branch_walk : (c : TypedCode) (at : Place) (w v : Around) (k l m n : List PointName) → Walk (laid_branch z c at w k m) (laid_branch u c at v l n)
-    branch_walk (Branch p e stmts) at w v k l m n =
-        joined (uses z at p e (instruction.Test e) w _) _ (uses u at p e (instruction.Test e) v _) _ (uses_walk at p e (instruction.Test e) w v _ _ tt) (laid_walk stmts (1 ∷ at) w v k l)
-    branch_walk _ at w v k l m n = nothing
-
-    whens_walk : (c : TypedCode) (at : Place) (w v : Around) (k l : List PointName) → Walk (flat_map (λ ps. ps) (laid_whens z c at w k)) (flat_map (λ ps. ps) (laid_whens u c at v l))
-    whens_walk (typed.More a rest) at w v k l =
-        joined (laid_when z a (0 ∷ at) w k) _ (laid_when u a (0 ∷ at) v l) _ (when_walk a (0 ∷ at) w v k l) (whens_walk rest (1 ∷ at) w v k l)
-    whens_walk _ at w v k l = nothing
-
-    when_walk : (c : TypedCode) (at : Place) (w v : Around) (k l : List PointName) → Walk (laid_when z c at w k) (laid_when u c at v l)
-    when_walk (When choices stmts) at w v k l = laid_walk stmts (1 ∷ at) w v k l
-    when_walk _ at w v k l = nothing
+  laid_walk : (c : TypedCode) (at : Place) (w v : Around) (k l : List PointName) → Walk (laid z c at w k) (laid u c at v l)
+  laid_walk = on_code laid_walk_cases
 
   end_walk : (sub : TypedSub) (b : Bool) → Walk (if b then function_end sub else procedure_end z sub) (if b then function_end sub else procedure_end u sub)
   end_walk sub true = one _ _ refl tt

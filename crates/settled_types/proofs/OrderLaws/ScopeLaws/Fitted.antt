@@ -16,6 +16,7 @@ use Rattle.machine.specs.flow_paths.Layout.{Around, within_loop, within_block, w
 use Rattle.machine.specs.flow_paths.Laid.{around_body, scope_at_end, procedure_end, function_end, sub_points}
 use Rattle.machine.specs.flow_paths.Scopes.{taken}
 use Rattle.flow_paths.proofs.Held.{held_count}
+use Rattle.settled_types.proofs.TypedCases.{Laws, branch_none, branches_none, laid_none, on_code, when_none, whens_none}
 use Rattle.settled_types.specs.OrderLaws.ScopeLaws.Alone.{CallsFit, CallsOnly, PassedFit, SourceFits, ValueFits, StoredFits, CodeFits, BranchesFit, BranchFits, AlternativesFit, AlternativeFits, InstructionFits}
 use Rattle.settled_types.specs.OrderLaws.ScopeLaws.Fitted.{types, types_at, Pairs, FillsFit, RightFits, IsFitted}
 use Rattle.settled_types.proofs.OrderLaws.ScopeLaws.Alone.{calls_as}
@@ -277,82 +278,86 @@ module _ (fit : ℕ → ℕ → Type 0) (of : ℕ → ℕ) (truth : ℕ) (ask pa
   swap : (a b : ℕ) → a + b ≡ b + a
   swap a b = omega arith
 
-  mutual
-    unfolding laid laid_branches laid_branch laid_whens laid_when CodeFits BranchesFit BranchFits AlternativesFit AlternativeFits
-
-    laid_fit : (c : TypedCode) (at : Place) (w : Around) (k : List PointName) → CodeFits ask passed alone single c → Filling (laid s c at w k) → Fitted (laid s c at w k)
-    laid_fit (typed.More a rest) at w k (first, second) =
+  laid_fit_cases : Laws (λ c. (at : Place) → (w : Around) → (k : List PointName) → CodeFits ask passed alone single c → Filling (laid s c at w k) → Fitted (laid s c at w k))
+      (λ c. (at : Place) → (w : Around) → (k : List PointName) → (otherwise : List PointName) → BranchesFit ask passed alone single c → Filling (laid_branches s c at w k otherwise) → Fitted (laid_branches s c at w k otherwise))
+      (λ c. (at : Place) → (w : Around) → (k : List PointName) → (otherwise : List PointName) → BranchFits ask passed alone single c → Filling (laid_branch s c at w k otherwise) → Fitted (laid_branch s c at w k otherwise))
+      (λ c. (at : Place) → (w : Around) → (k : List PointName) → AlternativesFit ask passed alone single c → Filling (flat_map (λ ps. ps) (laid_whens s c at w k)) → Fitted (flat_map (λ ps. ps) (laid_whens s c at w k)))
+      (λ c. (at : Place) → (w : Around) → (k : List PointName) → AlternativeFits ask passed alone single c → Filling (laid_when s c at w k) → Fitted (laid_when s c at w k))
+  unfolding laid laid_branches laid_branch laid_whens laid_when CodeFits BranchesFit BranchFits AlternativesFit AlternativeFits
+  laid_fit_cases = record {
+    list = λ a rest by_a by_rest at w k (first, second).
         let behind : List NamedPoint = laid s rest (1 ∷ at) (with_scope (declared a) w) k in
-        joined (laid s a (0 ∷ at) w (entry behind k)) behind (laid_fit a (0 ∷ at) w (entry behind k) first) (laid_fit rest (1 ∷ at) (with_scope (declared a) w) k second)
-    laid_fit (Declare p x v) at w k fits = stored at p v (instruction.Declare x v) w k refl refl fits tt (value_may v fits)
-    laid_fit (Assign p target e) at w k (target_fits, source) =
+        joined (laid s a (0 ∷ at) w (entry behind k)) behind (by_a (0 ∷ at) w (entry behind k) first) (by_rest (1 ∷ at) (with_scope (declared a) w) k second);
+    declare = λ p x v at w k fits.
+        stored at p v (instruction.Declare x v) w k refl refl fits tt (value_may v fits);
+    assign = λ p target e at w k (target_fits, source).
         two_fit (1 ∷ at) (0 ∷ at) e target w.scope _ (row_at at 0 ∷ [])
         (point (row_at at 0) p (instruction.Assign target e) (with_held s target (0 ∷ at) (with_held s e (1 ∷ at) w.scope)) k) refl refl refl (target_fits, source) tt
-        (source_fit e (1 ∷ at) w.scope _ (stored_may target e source)) (prep_fit target (0 ∷ at) (with_held s e (1 ∷ at) w.scope) (row_at at 0 ∷ []) target_fits)
-    laid_fit (Skip p) at w k fits = λ fill. ((tt, none_taken w.scope, tt), tt)
-    laid_fit (typed.Call p sub actuals) at w k fits = stored at p actuals (instruction.Call sub actuals None) w k refl refl fits tt (passed_may actuals fits)
-    laid_fit (Output p text line) at w k fits = used at p text (instruction.Output text line) w k refl refl fits tt fits
-    laid_fit (Input p target) at w k fits = used at p target (instruction.Input target) w k refl refl fits tt fits
-    laid_fit (Release p m) at w k fits = used at p m (instruction.Release m) w k refl refl fits tt fits
-    laid_fit (If branches otherwise) at w k (first, second) =
+        (source_fit e (1 ∷ at) w.scope _ (stored_may target e source)) (prep_fit target (0 ∷ at) (with_held s e (1 ∷ at) w.scope) (row_at at 0 ∷ []) target_fits);
+    skip = λ p at w k fits.
+        λ fill. ((tt, none_taken w.scope, tt), tt);
+    call = λ p sub actuals at w k fits.
+        stored at p actuals (instruction.Call sub actuals None) w k refl refl fits tt (passed_may actuals fits);
+    output = λ p text line at w k fits.
+        used at p text (instruction.Output text line) w k refl refl fits tt fits;
+    input = λ p target at w k fits.
+        used at p target (instruction.Input target) w k refl refl fits tt fits;
+    release = λ p m at w k fits.
+        used at p m (instruction.Release m) w k refl refl fits tt fits;
+    choice = λ branches otherwise by_branches by_otherwise at w k (first, second).
         let behind : List NamedPoint = laid s otherwise (1 ∷ at) w k in
-        joined (laid_branches s branches (0 ∷ at) w k (entry behind k)) behind (branches_fit branches (0 ∷ at) w k (entry behind k) first) (laid_fit otherwise (1 ∷ at) w k second)
-    laid_fit (Case p e whens) at w k (first, second) =
+        joined (laid_branches s branches (0 ∷ at) w k (entry behind k)) behind (by_branches (0 ∷ at) w k (entry behind k) first) (by_otherwise (1 ∷ at) w k second);
+    cases = λ p e whens by_whens at w k (first, second).
         let behind : List (List NamedPoint) = laid_whens s whens (1 ∷ at) w k in
         joined (uses s at p e (instruction.Choose e (choices_of whens)) w (flat_map (λ ps. entry ps k) behind)) (flat_map (λ ps. ps) behind)
-        (used at p e (instruction.Choose e (choices_of whens)) w (flat_map (λ ps. entry ps k) behind) refl refl first tt first) (whens_fit whens (1 ∷ at) w k second)
-    laid_fit (Loop stmts) at w k fits = laid_fit stmts (0 ∷ at) (within_loop k w) (entry (laid s stmts (0 ∷ at) (within_loop k w) k) k) fits
-    laid_fit (While p e stmts) at w k (first, second) =
+        (used at p e (instruction.Choose e (choices_of whens)) w (flat_map (λ ps. entry ps k) behind) refl refl first tt first) (by_whens (1 ∷ at) w k second);
+    loop = λ stmts by_stmts at w k fits.
+        by_stmts (0 ∷ at) (within_loop k w) (entry (laid s stmts (0 ∷ at) (within_loop k w) k) k) fits;
+    while = λ p e stmts by_stmts at w k (first, second).
         let turn : List PointName = entry (prep s e (0 ∷ at) w.scope (row_at at 0 ∷ [])) (row_at at 0 ∷ []) in
         let inner : List NamedPoint = laid s stmts (1 ∷ at) (within_loop k w) turn in
         joined (uses s at p e (instruction.Test e) w (entry inner turn ++ k)) inner (used at p e (instruction.Test e) w (entry inner turn ++ k) refl refl first tt first)
-        (laid_fit stmts (1 ∷ at) (within_loop k w) turn second)
-    laid_fit (For p x reversed low high stmts) at w k (first, second, third) =
+        (by_stmts (1 ∷ at) (within_loop k w) turn second);
+    for = λ p x reversed low high stmts by_stmts at w k (first, second, third).
         let next : List PointName = row_at at 1 ∷ [] in
         joined _ _
         (two_fit (0 ∷ at) (1 ∷ at) low high w.scope _ (row_at at 0 ∷ [])
         (point (row_at at 0) p (instruction.Start x reversed low high) (with_held s high (1 ∷ at) (with_held s low (0 ∷ at) w.scope)) next) refl refl refl (first, second) tt
         (prep_fit low (0 ∷ at) w.scope _ first) (prep_fit high (1 ∷ at) (with_held s low (0 ∷ at) w.scope) (row_at at 0 ∷ []) second))
-        (λ fill. ((tt, none_taken (x ∷ w.scope), tt), laid_fit stmts (2 ∷ at) (with_scope (x ∷ []) (within_loop k w)) next third fill.1))
-    laid_fit (Exit p e) at w k fits =
+        (λ fill. ((tt, none_taken (x ∷ w.scope), tt), by_stmts (2 ∷ at) (with_scope (x ∷ []) (within_loop k w)) next third fill.1));
+    exit = λ p e at w k fits.
         let out : List NamedPoint = ends at 1 p w.in_loop w.scope w.leave in
         joined (uses s at p e (instruction.LeaveLoop e) w (entry out w.leave ++ unless_empty e k)) out
-        (used at p e (instruction.LeaveLoop e) w (entry out w.leave ++ unless_empty e k) refl refl fits tt fits) (λ fill. ends_fit at 1 p w.in_loop w.scope w.leave)
-    laid_fit (Return p v) at w k fits =
+        (used at p e (instruction.LeaveLoop e) w (entry out w.leave ++ unless_empty e k) refl refl fits tt fits) (λ fill. ends_fit at 1 p w.in_loop w.scope w.leave);
+    return = λ p v at w k fits.
         let finish : PointName = row_at at (suc (length w.in_all)) in
         joined (uses s at p v (instruction.Hold v) w (entry (closing at 1 p w) [])) (closing at 1 p w)
-        (stored at p v (instruction.Hold v) w (entry (closing at 1 p w) []) refl refl fits tt (value_may v fits)) (λ fill. last_fit at 1 p p w.in_all w.scope w.formals finish)
-    laid_fit (Block n stmts end) at w k fits =
+        (stored at p v (instruction.Hold v) w (entry (closing at 1 p w) []) refl refl fits tt (value_may v fits)) (λ fill. last_fit at 1 p p w.in_all w.scope w.formals finish);
+    block = λ n stmts end by_stmts at w k fits.
         let out : List NamedPoint = ends at 0 end (ending s stmts) (reverse (declared stmts) ++ w.scope) k in
         joined (laid s stmts (0 ∷ at) (within_block (ending s stmts) w) (entry out k)) out
-        (laid_fit stmts (0 ∷ at) (within_block (ending s stmts) w) (entry out k) fits) (λ fill. ends_fit at 0 end (ending s stmts) (reverse (declared stmts) ++ w.scope) k)
-    laid_fit _ at w k fits = λ fill. tt
-
-    branches_fit : (c : TypedCode) (at : Place) (w : Around) (k otherwise : List PointName) → BranchesFit ask passed alone single c
-        → Filling (laid_branches s c at w k otherwise) → Fitted (laid_branches s c at w k otherwise)
-    branches_fit (typed.More a rest) at w k otherwise (first, second) =
+        (by_stmts (0 ∷ at) (within_block (ending s stmts) w) (entry out k) fits) (λ fill. ends_fit at 0 end (ending s stmts) (reverse (declared stmts) ++ w.scope) k);
+    others = λ c other at w k fits. rw (laid_none s c at w k other) (λ fill. tt);
+    branches = λ a rest by_a by_rest at w k otherwise (first, second).
         let behind : List NamedPoint = laid_branches s rest (1 ∷ at) w k otherwise in
-        joined (laid_branch s a (0 ∷ at) w k (entry behind otherwise)) behind (branch_fit a (0 ∷ at) w k (entry behind otherwise) first)
-        (branches_fit rest (1 ∷ at) w k otherwise second)
-    branches_fit _ at w k otherwise fits = λ fill. tt
-
-    branch_fit : (c : TypedCode) (at : Place) (w : Around) (k otherwise : List PointName) → BranchFits ask passed alone single c
-        → Filling (laid_branch s c at w k otherwise) → Fitted (laid_branch s c at w k otherwise)
-    branch_fit (Branch p e stmts) at w k otherwise (first, second) =
+        joined (laid_branch s a (0 ∷ at) w k (entry behind otherwise)) behind (by_a (0 ∷ at) w k (entry behind otherwise) first)
+        (by_rest (1 ∷ at) w k otherwise second);
+    no_branches = λ c other at w k otherwise fits. rw (branches_none s c at w k otherwise other) (λ fill. tt);
+    branch = λ p e stmts by_stmts at w k otherwise (first, second).
         let inner : List NamedPoint = laid s stmts (1 ∷ at) w k in
         joined (uses s at p e (instruction.Test e) w (entry inner k ++ otherwise)) inner
-        (used at p e (instruction.Test e) w (entry inner k ++ otherwise) refl refl first tt first) (laid_fit stmts (1 ∷ at) w k second)
-    branch_fit _ at w k otherwise fits = λ fill. tt
+        (used at p e (instruction.Test e) w (entry inner k ++ otherwise) refl refl first tt first) (by_stmts (1 ∷ at) w k second);
+    no_branch = λ c other at w k otherwise fits. rw (branch_none s c at w k otherwise other) (λ fill. tt);
+    alternatives = λ a rest by_a by_rest at w k (first, second).
+        joined (laid_when s a (0 ∷ at) w k) (flat_map (λ ps. ps) (laid_whens s rest (1 ∷ at) w k)) (by_a (0 ∷ at) w k first) (by_rest (1 ∷ at) w k second);
+    no_alternatives = λ c other at w k fits. rw (whens_none s c at w k other) (λ fill. tt);
+    alternative = λ choices stmts by_stmts at w k fits.
+        by_stmts (1 ∷ at) w k fits;
+    no_alternative = λ c other at w k fits. rw (when_none s c at w k other) (λ fill. tt);
+  }
 
-    whens_fit : (c : TypedCode) (at : Place) (w : Around) (k : List PointName) → AlternativesFit ask passed alone single c
-        → Filling (flat_map (λ ps. ps) (laid_whens s c at w k)) → Fitted (flat_map (λ ps. ps) (laid_whens s c at w k))
-    whens_fit (typed.More a rest) at w k (first, second) =
-        joined (laid_when s a (0 ∷ at) w k) (flat_map (λ ps. ps) (laid_whens s rest (1 ∷ at) w k)) (when_fit a (0 ∷ at) w k first) (whens_fit rest (1 ∷ at) w k second)
-    whens_fit _ at w k fits = λ fill. tt
-
-    when_fit : (c : TypedCode) (at : Place) (w : Around) (k : List PointName) → AlternativeFits ask passed alone single c → Filling (laid_when s c at w k) → Fitted (laid_when s c at w k)
-    when_fit (When choices stmts) at w k fits = laid_fit stmts (1 ∷ at) w k fits
-    when_fit _ at w k fits = λ fill. tt
+  laid_fit : (c : TypedCode) (at : Place) (w : Around) (k : List PointName) → CodeFits ask passed alone single c → Filling (laid s c at w k) → Fitted (laid s c at w k)
+  laid_fit = on_code laid_fit_cases
 
   end_fit : (sub : TypedSub) (c : Bool) → Fitted (if c then function_end sub else procedure_end s sub)
   end_fit sub true = ((tt, none_taken (scope_at_end sub), tt), tt)

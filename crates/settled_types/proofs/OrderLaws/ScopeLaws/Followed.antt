@@ -15,6 +15,7 @@ use Rattle.machine.specs.flow_paths.Points.{Place, PointName, row_at, NamedPoint
 use Rattle.machine.specs.flow_paths.Prep.{Setting, with_held, prep}
 use Rattle.machine.specs.flow_paths.Layout.{Around, within_loop, within_block, from, ending, ends, uses, uses_both, uses_second_first, laid, laid_branches, laid_branch, laid_whens, laid_when}
 use Rattle.machine.specs.flow_paths.Laid.{around_body, scope_at_end, function_end, procedure_end, sub_points}
+use Rattle.settled_types.proofs.TypedCases.{Laws, branch_none, branches_none, laid_none, on_code, when_none, whens_none}
 use Rattle.settled_types.specs.OrderLaws.ScopeLaws.Alone.{CallsFit, CallsOnly, PassedFit, SourceFits, ValueFits, StoredFits, CodeFits, BranchesFit, BranchFits, AlternativesFit, AlternativeFits}
 use Rattle.settled_types.proofs.OrderLaws.ScopeLaws.Given.{Takes, none_before}
 
@@ -217,65 +218,72 @@ module _ (s : Setting) (ask passed alone single : ℕ → Type 0) (weaker : (n :
   only_one : (p : NamedPoint) → CallsNone p.instr → Follow (p ∷ [])
   only_one p none = all_asked (p ∷ []) (asked_one p none)
 
-  mutual
-    unfolding laid laid_branches laid_branch laid_whens laid_when CodeFits BranchesFit BranchFits AlternativesFit AlternativeFits
-
-    laid_follows : (c : TypedCode) (at : Place) (w : Around) (k : List PointName) → CodeFits ask passed alone single c → Follow (laid s c at w k)
-    laid_follows (typed.More a rest) at w k (first, second) =
-        follow_both (laid s a (0 ∷ at) w _) (laid s rest (1 ∷ at) _ k) (laid_follows a (0 ∷ at) w _ first) (laid_follows rest (1 ∷ at) _ k second)
-    laid_follows (Declare p x v) at w k fits = value_follows at p v (instruction.Declare x v) w k (declare_takes x v) (λ n a t e. false≢true (ap fills e)) fits
-    laid_follows (Assign p target e) at w k (only, source) = assign_follows at p target e w k only source
-    laid_follows (Skip p) at w k fits = only_one _ (λ n a t e. false≢true (ap fills e))
-    laid_follows (typed.Call p sub actuals) at w k fits =
+  laid_follows_cases : Laws (λ c. (at : Place) → (w : Around) → (k : List PointName) → CodeFits ask passed alone single c → Follow (laid s c at w k))
+      (λ c. (at : Place) → (w : Around) → (k : List PointName) → (m : List PointName) → BranchesFit ask passed alone single c → Follow (laid_branches s c at w k m))
+      (λ c. (at : Place) → (w : Around) → (k : List PointName) → (m : List PointName) → BranchFits ask passed alone single c → Follow (laid_branch s c at w k m))
+      (λ c. (at : Place) → (w : Around) → (k : List PointName) → AlternativesFit ask passed alone single c → Follow (flat_map (λ ps. ps) (laid_whens s c at w k)))
+      (λ c. (at : Place) → (w : Around) → (k : List PointName) → AlternativeFits ask passed alone single c → Follow (laid_when s c at w k))
+  unfolding laid laid_branches laid_branch laid_whens laid_when CodeFits BranchesFit BranchFits AlternativesFit AlternativeFits
+  laid_follows_cases = record {
+    list = λ a rest by_a by_rest at w k (first, second).
+        follow_both (laid s a (0 ∷ at) w _) (laid s rest (1 ∷ at) _ k) (by_a (0 ∷ at) w _ first) (by_rest (1 ∷ at) _ k second);
+    declare = λ p x v at w k fits.
+        value_follows at p v (instruction.Declare x v) w k (declare_takes x v) (λ n a t e. false≢true (ap fills e)) fits;
+    assign = λ p target e at w k (only, source).
+        assign_follows at p target e w k only source;
+    skip = λ p at w k fits.
+        only_one _ (λ n a t e. false≢true (ap fills e));
+    call = λ p sub actuals at w k fits.
         all_asked (uses s at p actuals (instruction.Call sub actuals None) w k)
-        (asked_both (prep s actuals (0 ∷ at) w.scope (row_at at 0 ∷ [])) _ (passed_asked actuals (0 ∷ at) w.scope (row_at at 0 ∷ []) fits) (asked_one _ (λ n a t e. false≢true (ap fills e))))
-    laid_follows (Output p text line) at w k fits = only_uses at p text (instruction.Output text line) w k fits (λ n a t e. false≢true (ap fills e))
-    laid_follows (Input p target) at w k fits = only_uses at p target (instruction.Input target) w k fits (λ n a t e. false≢true (ap fills e))
-    laid_follows (Release p m) at w k fits = only_uses at p m (instruction.Release m) w k fits (λ n a t e. false≢true (ap fills e))
-    laid_follows (If branches otherwise) at w k (first, second) =
-        follow_both (laid_branches s branches (0 ∷ at) w k _) (laid s otherwise (1 ∷ at) w k) (branches_follow branches (0 ∷ at) w k _ first) (laid_follows otherwise (1 ∷ at) w k second)
-    laid_follows (Case p e whens) at w k (first, second) =
-        follow_both (uses s at p e _ w _) _ (only_uses at p e _ w _ first (λ n a t e. false≢true (ap fills e))) (whens_follow whens (1 ∷ at) w k second)
-    laid_follows (Loop stmts) at w k fits = laid_follows stmts (0 ∷ at) (within_loop k w) _ fits
-    laid_follows (While p e stmts) at w k (first, second) =
+        (asked_both (prep s actuals (0 ∷ at) w.scope (row_at at 0 ∷ [])) _ (passed_asked actuals (0 ∷ at) w.scope (row_at at 0 ∷ []) fits) (asked_one _ (λ n a t e. false≢true (ap fills e))));
+    output = λ p text line at w k fits.
+        only_uses at p text (instruction.Output text line) w k fits (λ n a t e. false≢true (ap fills e));
+    input = λ p target at w k fits.
+        only_uses at p target (instruction.Input target) w k fits (λ n a t e. false≢true (ap fills e));
+    release = λ p m at w k fits.
+        only_uses at p m (instruction.Release m) w k fits (λ n a t e. false≢true (ap fills e));
+    choice = λ branches otherwise by_branches by_otherwise at w k (first, second).
+        follow_both (laid_branches s branches (0 ∷ at) w k _) (laid s otherwise (1 ∷ at) w k) (by_branches (0 ∷ at) w k _ first) (by_otherwise (1 ∷ at) w k second);
+    cases = λ p e whens by_whens at w k (first, second).
+        follow_both (uses s at p e _ w _) _ (only_uses at p e _ w _ first (λ n a t e. false≢true (ap fills e))) (by_whens (1 ∷ at) w k second);
+    loop = λ stmts by_stmts at w k fits.
+        by_stmts (0 ∷ at) (within_loop k w) _ fits;
+    while = λ p e stmts by_stmts at w k (first, second).
         follow_both (uses s at p e (instruction.Test e) w _) _ (only_uses at p e (instruction.Test e) w _ first (λ n a t e. false≢true (ap fills e)))
-        (laid_follows stmts (1 ∷ at) (within_loop k w) _ second)
-    laid_follows (For p x reversed low high stmts) at w k (first, second, inside) =
+        (by_stmts (1 ∷ at) (within_loop k w) _ second);
+    for = λ p x reversed low high stmts by_stmts at w k (first, second, inside).
         follow_both (uses_both s at p low high (instruction.Start x reversed low high) w (row_at at 1 ∷ [])) _
         (all_asked (uses_both s at p low high (instruction.Start x reversed low high) w (row_at at 1 ∷ []))
         (asked_both (prep s low (0 ∷ at) w.scope _ ++ prep s high (1 ∷ at) _ (row_at at 0 ∷ [])) _
         (asked_both (prep s low (0 ∷ at) w.scope _) (prep s high (1 ∷ at) _ (row_at at 0 ∷ [])) (prep_asked low (0 ∷ at) w.scope _ first)
         (prep_asked high (1 ∷ at) _ (row_at at 0 ∷ []) second)) (asked_one _ (λ n a t e. false≢true (ap fills e)))))
-        (follow_both (_ ∷ []) (laid s stmts (2 ∷ at) _ (row_at at 1 ∷ [])) (only_one _ (λ n a t e. false≢true (ap fills e))) (laid_follows stmts (2 ∷ at) _ (row_at at 1 ∷ []) inside))
-    laid_follows (Exit p e) at w k fits =
+        (follow_both (_ ∷ []) (laid s stmts (2 ∷ at) _ (row_at at 1 ∷ [])) (only_one _ (λ n a t e. false≢true (ap fills e))) (by_stmts (2 ∷ at) _ (row_at at 1 ∷ []) inside));
+    exit = λ p e at w k fits.
         follow_both (uses s at p e (instruction.LeaveLoop e) w _) _ (only_uses at p e (instruction.LeaveLoop e) w _ fits (λ n a t e. false≢true (ap fills e)))
-        (all_asked _ (ends_asked at 1 p w.in_loop w.scope w.leave))
-    laid_follows (Return p v) at w k fits =
+        (all_asked _ (ends_asked at 1 p w.in_loop w.scope w.leave));
+    return = λ p v at w k fits.
         follow_both (uses s at p v (instruction.Hold v) w _) _ (value_follows at p v (instruction.Hold v) w _ (hold_takes v) (λ n a t e. false≢true (ap fills e)) fits)
-        (follow_both (ends at 1 p w.in_all w.scope _) _ (all_asked _ (ends_asked at 1 p w.in_all w.scope _)) (only_one _ (λ n a t e. false≢true (ap fills e))))
-    laid_follows (Block n stmts end) at w k fits =
-        follow_both (laid s stmts (0 ∷ at) (within_block (ending s stmts) w) _) _ (laid_follows stmts (0 ∷ at) (within_block (ending s stmts) w) _ fits)
-        (all_asked _ (ends_asked at 0 end (ending s stmts) _ k))
-    laid_follows _ at w k fits = λ p has. absurd has
+        (follow_both (ends at 1 p w.in_all w.scope _) _ (all_asked _ (ends_asked at 1 p w.in_all w.scope _)) (only_one _ (λ n a t e. false≢true (ap fills e))));
+    block = λ n stmts end by_stmts at w k fits.
+        follow_both (laid s stmts (0 ∷ at) (within_block (ending s stmts) w) _) _ (by_stmts (0 ∷ at) (within_block (ending s stmts) w) _ fits)
+        (all_asked _ (ends_asked at 0 end (ending s stmts) _ k));
+    others = λ c other at w k fits. rw (laid_none s c at w k other) (λ p has. absurd has);
+    branches = λ a rest by_a by_rest at w k m (first, second).
+        follow_both (laid_branch s a (0 ∷ at) w k _) (laid_branches s rest (1 ∷ at) w k m) (by_a (0 ∷ at) w k _ first) (by_rest (1 ∷ at) w k m second);
+    no_branches = λ c other at w k m fits. rw (branches_none s c at w k m other) (λ p has. absurd has);
+    branch = λ p e stmts by_stmts at w k m (first, second).
+        follow_both (uses s at p e (instruction.Test e) w _) _ (only_uses at p e (instruction.Test e) w _ first (λ n a t e. false≢true (ap fills e))) (by_stmts (1 ∷ at) w k second);
+    no_branch = λ c other at w k m fits. rw (branch_none s c at w k m other) (λ p has. absurd has);
+    alternatives = λ a rest by_a by_rest at w k (first, second).
+        follow_both (laid_when s a (0 ∷ at) w k) _ (by_a (0 ∷ at) w k first) (by_rest (1 ∷ at) w k second);
+    no_alternatives = λ c other at w k fits. rw (whens_none s c at w k other) (λ p has. absurd has);
+    alternative = λ choices stmts by_stmts at w k fits.
+        by_stmts (1 ∷ at) w k fits;
+    no_alternative = λ c other at w k fits. rw (when_none s c at w k other) (λ p has. absurd has);
+  }
 
-    branches_follow : (c : TypedCode) (at : Place) (w : Around) (k m : List PointName) → BranchesFit ask passed alone single c → Follow (laid_branches s c at w k m)
-    branches_follow (typed.More a rest) at w k m (first, second) =
-        follow_both (laid_branch s a (0 ∷ at) w k _) (laid_branches s rest (1 ∷ at) w k m) (branch_follows a (0 ∷ at) w k _ first) (branches_follow rest (1 ∷ at) w k m second)
-    branches_follow _ at w k m fits = λ p has. absurd has
-
-    branch_follows : (c : TypedCode) (at : Place) (w : Around) (k m : List PointName) → BranchFits ask passed alone single c → Follow (laid_branch s c at w k m)
-    branch_follows (Branch p e stmts) at w k m (first, second) =
-        follow_both (uses s at p e (instruction.Test e) w _) _ (only_uses at p e (instruction.Test e) w _ first (λ n a t e. false≢true (ap fills e))) (laid_follows stmts (1 ∷ at) w k second)
-    branch_follows _ at w k m fits = λ p has. absurd has
-
-    whens_follow : (c : TypedCode) (at : Place) (w : Around) (k : List PointName) → AlternativesFit ask passed alone single c → Follow (flat_map (λ ps. ps) (laid_whens s c at w k))
-    whens_follow (typed.More a rest) at w k (first, second) =
-        follow_both (laid_when s a (0 ∷ at) w k) _ (when_follows a (0 ∷ at) w k first) (whens_follow rest (1 ∷ at) w k second)
-    whens_follow _ at w k fits = λ p has. absurd has
-
-    when_follows : (c : TypedCode) (at : Place) (w : Around) (k : List PointName) → AlternativeFits ask passed alone single c → Follow (laid_when s c at w k)
-    when_follows (When choices stmts) at w k fits = laid_follows stmts (1 ∷ at) w k fits
-    when_follows _ at w k fits = λ p has. absurd has
+  laid_follows : (c : TypedCode) (at : Place) (w : Around) (k : List PointName) → CodeFits ask passed alone single c → Follow (laid s c at w k)
+  laid_follows = on_code laid_follows_cases
 
   end_follows : (sub : TypedSub) (b : Bool) → Follow (if b then function_end sub else procedure_end s sub)
   end_follows sub true = only_one _ (λ n a t e. false≢true (ap fills e))

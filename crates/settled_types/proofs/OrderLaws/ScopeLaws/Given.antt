@@ -16,6 +16,7 @@ use Rattle.machine.specs.flow_paths.Points.{Place, PointName, row_at, NamedPoint
 use Rattle.machine.specs.flow_paths.Prep.{Setting, held, with_held, prep}
 use Rattle.machine.specs.flow_paths.Layout.{Around, within_loop, within_block, with_scope, declared, from, ending, ends, uses, uses_both, uses_second_first, laid, laid_branches, laid_branch, laid_whens, laid_when, choices_of}
 use Rattle.machine.specs.flow_paths.Laid.{around_body, scope_at_end, procedure_end, function_end, sub_points}
+use Rattle.settled_types.proofs.TypedCases.{Laws, branch_none, branches_none, laid_none, on_code, when_none, whens_none}
 use Rattle.settled_types.specs.OrderLaws.ScopeLaws.Returning.{is_return}
 
 -- An object is declared with this alone, or it is assigned or returned.
@@ -294,76 +295,81 @@ module _ (s : Setting) where
         point (row_at at 1) p (instruction.Next x reversed low high) (x ∷ w.scope)
         (entry (laid s stmts (2 ∷ at) (with_scope (x ∷ []) (within_loop k w)) (row_at at 1 ∷ [])) (row_at at 1 ∷ []) ++ k)
 
-    mutual
-      unfolding laid laid_branches laid_branch laid_whens laid_when
-
-      laid_given : (c : TypedCode) (at : Place) (w : Around) (k : List PointName) → Within (laid s c at w k) → AreGiven whole (laid s c at w k)
-      laid_given (typed.More a rest) at w k within =
-          given_both (laid s a (0 ∷ at) w _) _ (laid_given a (0 ∷ at) w _ (first_of (laid s a (0 ∷ at) w _) _ within))
-          (laid_given rest (1 ∷ at) (with_scope (declared a) w) k (second_of (laid s a (0 ∷ at) w _) _ within))
-      laid_given (Declare p x v) at w k within = uses_given at p v (instruction.Declare x v) w k (value_declared x v) within
-      laid_given (Assign p target e) at w k within = assign_given at p target e w k within
-      laid_given (Skip p) at w k within = one_other (point (row_at at 0) p instruction.Skip w.scope k) (no_take instruction.Skip refl)
-      laid_given (typed.Call p sub actuals) at w k within =
-          uses_others at p actuals (instruction.Call sub actuals None) w k (no_take (instruction.Call sub actuals None) refl)
-      laid_given (Output p text line) at w k within =
-          uses_others at p text (instruction.Output text line) w k (no_take (instruction.Output text line) refl)
-      laid_given (Input p target) at w k within = uses_others at p target (instruction.Input target) w k (no_take (instruction.Input target) refl)
-      laid_given (Release p m) at w k within = uses_others at p m (instruction.Release m) w k (no_take (instruction.Release m) refl)
-      laid_given (If branches otherwise) at w k within =
-          given_both (laid_branches s branches (0 ∷ at) w k _) _ (branches_given branches (0 ∷ at) w k _ (first_of (laid_branches s branches (0 ∷ at) w k _) _ within))
-          (laid_given otherwise (1 ∷ at) w k (second_of (laid_branches s branches (0 ∷ at) w k _) _ within))
-      laid_given (Case p e whens) at w k within =
+    laid_given_cases : Laws (λ c. (at : Place) → (w : Around) → (k : List PointName) → Within (laid s c at w k) → AreGiven whole (laid s c at w k))
+        (λ c. (at : Place) → (w : Around) → (k : List PointName) → (m : List PointName) → Within (laid_branches s c at w k m) → AreGiven whole (laid_branches s c at w k m))
+        (λ c. (at : Place) → (w : Around) → (k : List PointName) → (m : List PointName) → Within (laid_branch s c at w k m) → AreGiven whole (laid_branch s c at w k m))
+        (λ c. (at : Place) → (w : Around) → (k : List PointName) → Within (flat_map (λ ps. ps) (laid_whens s c at w k)) → AreGiven whole (flat_map (λ ps. ps) (laid_whens s c at w k)))
+        (λ c. (at : Place) → (w : Around) → (k : List PointName) → Within (laid_when s c at w k) → AreGiven whole (laid_when s c at w k))
+    unfolding laid laid_branches laid_branch laid_whens laid_when
+    laid_given_cases = record {
+      list = λ a rest by_a by_rest at w k within.
+          given_both (laid s a (0 ∷ at) w _) _ (by_a (0 ∷ at) w _ (first_of (laid s a (0 ∷ at) w _) _ within))
+          (by_rest (1 ∷ at) (with_scope (declared a) w) k (second_of (laid s a (0 ∷ at) w _) _ within));
+      declare = λ p x v at w k within.
+          uses_given at p v (instruction.Declare x v) w k (value_declared x v) within;
+      assign = λ p target e at w k within.
+          assign_given at p target e w k within;
+      skip = λ p at w k within.
+          one_other (point (row_at at 0) p instruction.Skip w.scope k) (no_take instruction.Skip refl);
+      call = λ p sub actuals at w k within.
+          uses_others at p actuals (instruction.Call sub actuals None) w k (no_take (instruction.Call sub actuals None) refl);
+      output = λ p text line at w k within.
+          uses_others at p text (instruction.Output text line) w k (no_take (instruction.Output text line) refl);
+      input = λ p target at w k within.
+          uses_others at p target (instruction.Input target) w k (no_take (instruction.Input target) refl);
+      release = λ p m at w k within.
+          uses_others at p m (instruction.Release m) w k (no_take (instruction.Release m) refl);
+      choice = λ branches otherwise by_branches by_otherwise at w k within.
+          given_both (laid_branches s branches (0 ∷ at) w k _) _ (by_branches (0 ∷ at) w k _ (first_of (laid_branches s branches (0 ∷ at) w k _) _ within))
+          (by_otherwise (1 ∷ at) w k (second_of (laid_branches s branches (0 ∷ at) w k _) _ within));
+      cases = λ p e whens by_whens at w k within.
           given_both (uses s at p e _ w _) _ (uses_others at p e _ w _ (no_take (instruction.Choose e (choices_of whens)) refl))
-          (whens_given whens (1 ∷ at) w k (second_of (uses s at p e _ w _) _ within))
-      laid_given (Loop stmts) at w k within = laid_given stmts (0 ∷ at) (within_loop k w) _ within
-      laid_given (While p e stmts) at w k within =
+          (by_whens (1 ∷ at) w k (second_of (uses s at p e _ w _) _ within));
+      loop = λ stmts by_stmts at w k within.
+          by_stmts (0 ∷ at) (within_loop k w) _ within;
+      while = λ p e stmts by_stmts at w k within.
           given_both (uses s at p e (instruction.Test e) w _) _ (uses_others at p e (instruction.Test e) w _ (no_take (instruction.Test e) refl))
-          (laid_given stmts (1 ∷ at) (within_loop k w) _ (second_of (uses s at p e (instruction.Test e) w _) _ within))
-      laid_given (For p x reversed low high stmts) at w k within =
+          (by_stmts (1 ∷ at) (within_loop k w) _ (second_of (uses s at p e (instruction.Test e) w _) _ within));
+      for = λ p x reversed low high stmts by_stmts at w k within.
           given_both (uses_both s at p low high (instruction.Start x reversed low high) w (row_at at 1 ∷ [])) _
           (others_given _ (others_both (prep s low (0 ∷ at) w.scope _ ++ prep s high (1 ∷ at) (with_held s low (0 ∷ at) w.scope) (row_at at 0 ∷ [])) _
           (others_both (prep s low (0 ∷ at) w.scope _) _ (prep_others low (0 ∷ at) w.scope _) (prep_others high (1 ∷ at) (with_held s low (0 ∷ at) w.scope) (row_at at 0 ∷ [])))
           (others_one _ (no_take (instruction.Start x reversed low high) refl))))
           (given_both (next_point x p reversed low high stmts at w k ∷ []) (laid s stmts (2 ∷ at) (with_scope (x ∷ []) (within_loop k w)) (row_at at 1 ∷ []))
           (one_other (next_point x p reversed low high stmts at w k) (no_take (instruction.Next x reversed low high) refl))
-          (laid_given stmts (2 ∷ at) (with_scope (x ∷ []) (within_loop k w)) (row_at at 1 ∷ [])
-          (λ r has. second_of (uses_both s at p low high (instruction.Start x reversed low high) w (row_at at 1 ∷ [])) _ within r (inr has))))
-      laid_given (Exit p e) at w k within =
+          (by_stmts (2 ∷ at) (with_scope (x ∷ []) (within_loop k w)) (row_at at 1 ∷ [])
+          (λ r has. second_of (uses_both s at p low high (instruction.Start x reversed low high) w (row_at at 1 ∷ [])) _ within r (inr has))));
+      exit = λ p e at w k within.
           given_both (uses s at p e (instruction.LeaveLoop e) w _) _ (uses_others at p e (instruction.LeaveLoop e) w _ (no_take (instruction.LeaveLoop e) refl))
-          (others_given _ (ends_others at 1 p w.in_loop w.scope w.leave))
-      laid_given (Return p v) at w k within =
+          (others_given _ (ends_others at 1 p w.in_loop w.scope w.leave));
+      return = λ p v at w k within.
           given_both (uses s at p v (instruction.Hold v) w _) _ (uses_given at p v (instruction.Hold v) w _ (value_returned v) (first_of (uses s at p v (instruction.Hold v) w _) _ within))
           (others_given _ (others_both (ends at 1 p w.in_all w.scope _) _ (ends_others at 1 p w.in_all w.scope _)
-          (others_one _ (no_take instruction.Finish refl))))
-      laid_given (Block n stmts end) at w k within =
+          (others_one _ (no_take instruction.Finish refl))));
+      block = λ n stmts end by_stmts at w k within.
           given_both (laid s stmts (0 ∷ at) (within_block (ending s stmts) w) _) _
-          (laid_given stmts (0 ∷ at) (within_block (ending s stmts) w) _ (first_of (laid s stmts (0 ∷ at) (within_block (ending s stmts) w) _) _ within))
-          (others_given _ (ends_others at 0 end (ending s stmts) _ k))
-      laid_given _ at w k within = λ p has. absurd has
-
-      branches_given : (c : TypedCode) (at : Place) (w : Around) (k m : List PointName) → Within (laid_branches s c at w k m) → AreGiven whole (laid_branches s c at w k m)
-      branches_given (typed.More a rest) at w k m within =
-          given_both (laid_branch s a (0 ∷ at) w k _) _ (branch_given a (0 ∷ at) w k _ (first_of (laid_branch s a (0 ∷ at) w k _) _ within))
-          (branches_given rest (1 ∷ at) w k m (second_of (laid_branch s a (0 ∷ at) w k _) _ within))
-      branches_given _ at w k m within = λ p has. absurd has
-
-      branch_given : (c : TypedCode) (at : Place) (w : Around) (k m : List PointName) → Within (laid_branch s c at w k m) → AreGiven whole (laid_branch s c at w k m)
-      branch_given (Branch p e stmts) at w k m within =
+          (by_stmts (0 ∷ at) (within_block (ending s stmts) w) _ (first_of (laid s stmts (0 ∷ at) (within_block (ending s stmts) w) _) _ within))
+          (others_given _ (ends_others at 0 end (ending s stmts) _ k));
+      others = λ c other at w k within. rw (laid_none s c at w k other) (λ p has. absurd has);
+      branches = λ a rest by_a by_rest at w k m within.
+          given_both (laid_branch s a (0 ∷ at) w k _) _ (by_a (0 ∷ at) w k _ (first_of (laid_branch s a (0 ∷ at) w k _) _ within))
+          (by_rest (1 ∷ at) w k m (second_of (laid_branch s a (0 ∷ at) w k _) _ within));
+      no_branches = λ c other at w k m within. rw (branches_none s c at w k m other) (λ p has. absurd has);
+      branch = λ p e stmts by_stmts at w k m within.
           given_both (uses s at p e (instruction.Test e) w _) _ (uses_others at p e (instruction.Test e) w _ (no_take (instruction.Test e) refl))
-          (laid_given stmts (1 ∷ at) w k (second_of (uses s at p e (instruction.Test e) w _) _ within))
-      branch_given _ at w k m within = λ p has. absurd has
+          (by_stmts (1 ∷ at) w k (second_of (uses s at p e (instruction.Test e) w _) _ within));
+      no_branch = λ c other at w k m within. rw (branch_none s c at w k m other) (λ p has. absurd has);
+      alternatives = λ a rest by_a by_rest at w k within.
+          given_both (laid_when s a (0 ∷ at) w k) _ (by_a (0 ∷ at) w k (first_of (laid_when s a (0 ∷ at) w k) _ within))
+          (by_rest (1 ∷ at) w k (second_of (laid_when s a (0 ∷ at) w k) _ within));
+      no_alternatives = λ c other at w k within. rw (whens_none s c at w k other) (λ p has. absurd has);
+      alternative = λ choices stmts by_stmts at w k within.
+          by_stmts (1 ∷ at) w k within;
+      no_alternative = λ c other at w k within. rw (when_none s c at w k other) (λ p has. absurd has);
+    }
 
-      whens_given : (c : TypedCode) (at : Place) (w : Around) (k : List PointName) → Within (flat_map (λ ps. ps) (laid_whens s c at w k))
-          → AreGiven whole (flat_map (λ ps. ps) (laid_whens s c at w k))
-      whens_given (typed.More a rest) at w k within =
-          given_both (laid_when s a (0 ∷ at) w k) _ (when_given a (0 ∷ at) w k (first_of (laid_when s a (0 ∷ at) w k) _ within))
-          (whens_given rest (1 ∷ at) w k (second_of (laid_when s a (0 ∷ at) w k) _ within))
-      whens_given _ at w k within = λ p has. absurd has
-
-      when_given : (c : TypedCode) (at : Place) (w : Around) (k : List PointName) → Within (laid_when s c at w k) → AreGiven whole (laid_when s c at w k)
-      when_given (When choices stmts) at w k within = laid_given stmts (1 ∷ at) w k within
-      when_given _ at w k within = λ p has. absurd has
+    laid_given : (c : TypedCode) (at : Place) (w : Around) (k : List PointName) → Within (laid s c at w k) → AreGiven whole (laid s c at w k)
+    laid_given = on_code laid_given_cases
 
     end_given : (sub : TypedSub) (b : Bool) → AreGiven whole (if b then function_end sub else procedure_end s sub)
     end_given sub true = one_other _ (no_take instruction.Fall refl)

@@ -16,6 +16,7 @@ use Rattle.machine.specs.flow_paths.Layout.{Around, within_loop, within_block, w
 use Rattle.machine.specs.flow_paths.Laid.{around_body, scope_at_end, procedure_end, function_end, body_points, sub_points, elaboration_points}
 use Rattle.machine.specs.flow_paths.Scopes.{is_within, taken}
 use Rattle.flow_paths.proofs.Held.{held_count}
+use Rattle.settled_types.proofs.TypedCases.{Laws, branch_none, branches_none, laid_none, on_code, when_none, whens_none}
 use Rattle.settled_types.specs.OrderLaws.ScopeLaws.Code.{roots, are_seen, is_seen, is_each_seen, body_seen}
 use Rattle.settled_types.specs.OrderLaws.ScopeLaws.Order.{named_in}
 use Rattle.settled_types.specs.OrderLaws.ScopeLaws.Supplied.{IsLeft}
@@ -161,42 +162,52 @@ module _ (outer : ℕ → Bool) where
 
     -- ---- statements
 
-    mutual
-      unfolding laid is_seen is_each_seen
-
-      laid_seen : (c : TypedCode) (at : Place) (w : Around) (k : List PointName) → is_seen outer w.scope c ≡ true → Seen (laid s c at w k)
-      laid_seen (typed.More a rest) at w k h =
+    laid_seen_cases : Laws (λ c. (at : Place) → (w : Around) → (k : List PointName) → is_seen outer w.scope c ≡ true → Seen (laid s c at w k))
+        (λ c. (at : Place) → (w : Around) → (k : List PointName) → (otherwise : List PointName) → is_each_seen outer w.scope c ≡ true → Seen (laid_branches s c at w k otherwise))
+        (λ c. (at : Place) → (w : Around) → (k : List PointName) → (otherwise : List PointName) → is_seen outer w.scope c ≡ true → Seen (laid_branch s c at w k otherwise))
+        (λ c. (at : Place) → (w : Around) → (k : List PointName) → is_each_seen outer w.scope c ≡ true → Seen (flat_map (λ ps. ps) (laid_whens s c at w k)))
+        (λ c. (at : Place) → (w : Around) → (k : List PointName) → is_seen outer w.scope c ≡ true → Seen (laid_when s c at w k))
+    unfolding laid is_seen is_each_seen
+    laid_seen_cases = record {
+      list = λ a rest by_a by_rest at w k h.
           let v : Around = with_scope (declared a) w in
           let behind : List NamedPoint = laid s rest (1 ∷ at) v k in
           both (laid s a (0 ∷ at) w (entry behind k)) behind
-          (laid_seen a (0 ∷ at) w (entry behind k) (and_first (is_seen outer w.scope a) (is_seen outer v.scope rest) h))
-          (laid_seen rest (1 ∷ at) v k (and_second (is_seen outer w.scope a) (is_seen outer v.scope rest) h))
-      laid_seen (Declare p x v) at w k h = used at p v (instruction.Declare x v) w.scope k refl refl h
-      laid_seen (Assign p target e) at w k h =
+          (by_a (0 ∷ at) w (entry behind k) (and_first (is_seen outer w.scope a) (is_seen outer v.scope rest) h))
+          (by_rest (1 ∷ at) v k (and_second (is_seen outer w.scope a) (is_seen outer v.scope rest) h));
+      declare = λ p x v at w k h.
+          used at p v (instruction.Declare x v) w.scope k refl refl h;
+      assign = λ p target e at w k h.
           paired at (1 ∷ at) (0 ∷ at) p e target (instruction.Assign target e) w.scope k refl refl
           (and_first (are_seen outer w.scope (roots e)) (are_seen outer w.scope (roots target)) h)
-          (and_second (are_seen outer w.scope (roots e)) (are_seen outer w.scope (roots target)) h)
-      laid_seen (Skip p) at w k h = (refl, tt)
-      laid_seen (typed.Call p sub actuals) at w k h = used at p actuals (instruction.Call sub actuals None) w.scope k refl refl h
-      laid_seen (Output p text line) at w k h = used at p text (instruction.Output text line) w.scope k refl refl h
-      laid_seen (Input p target) at w k h = used at p target (instruction.Input target) w.scope k refl refl h
-      laid_seen (Release p m) at w k h = used at p m (instruction.Release m) w.scope k refl refl h
-      laid_seen (If branches otherwise) at w k h =
+          (and_second (are_seen outer w.scope (roots e)) (are_seen outer w.scope (roots target)) h);
+      skip = λ p at w k h.
+          (refl, tt);
+      call = λ p sub actuals at w k h.
+          used at p actuals (instruction.Call sub actuals None) w.scope k refl refl h;
+      output = λ p text line at w k h.
+          used at p text (instruction.Output text line) w.scope k refl refl h;
+      input = λ p target at w k h.
+          used at p target (instruction.Input target) w.scope k refl refl h;
+      release = λ p m at w k h.
+          used at p m (instruction.Release m) w.scope k refl refl h;
+      choice = λ branches otherwise by_branches by_otherwise at w k h.
           let behind : List NamedPoint = laid s otherwise (1 ∷ at) w k in
           both (laid_branches s branches (0 ∷ at) w k (entry behind k)) behind
-          (branches_seen branches (0 ∷ at) w k (entry behind k) (and_first (is_each_seen outer w.scope branches) (is_seen outer w.scope otherwise) h))
-          (laid_seen otherwise (1 ∷ at) w k (and_second (is_each_seen outer w.scope branches) (is_seen outer w.scope otherwise) h))
-      laid_seen (Case p e whens) at w k h =
+          (by_branches (0 ∷ at) w k (entry behind k) (and_first (is_each_seen outer w.scope branches) (is_seen outer w.scope otherwise) h))
+          (by_otherwise (1 ∷ at) w k (and_second (is_each_seen outer w.scope branches) (is_seen outer w.scope otherwise) h));
+      cases = λ p e whens by_whens at w k h.
           both _ (flat_map (λ ps. ps) (laid_whens s whens (1 ∷ at) w k))
           (used at p e (instruction.Choose e (choices_of whens)) w.scope _ refl refl (and_first (are_seen outer w.scope (roots e)) (is_each_seen outer w.scope whens) h))
-          (whens_seen whens (1 ∷ at) w k (and_second (are_seen outer w.scope (roots e)) (is_each_seen outer w.scope whens) h))
-      laid_seen (Loop stmts) at w k h = laid_seen stmts (0 ∷ at) (within_loop k w) _ h
-      laid_seen (While p e stmts) at w k h =
+          (by_whens (1 ∷ at) w k (and_second (are_seen outer w.scope (roots e)) (is_each_seen outer w.scope whens) h));
+      loop = λ stmts by_stmts at w k h.
+          by_stmts (0 ∷ at) (within_loop k w) _ h;
+      while = λ p e stmts by_stmts at w k h.
           let turn : List PointName = entry (prep s e (0 ∷ at) w.scope (row_at at 0 ∷ [])) (row_at at 0 ∷ []) in
           both _ (laid s stmts (1 ∷ at) (within_loop k w) turn)
           (used at p e (instruction.Test e) w.scope _ refl refl (and_first (are_seen outer w.scope (roots e)) (is_seen outer w.scope stmts) h))
-          (laid_seen stmts (1 ∷ at) (within_loop k w) turn (and_second (are_seen outer w.scope (roots e)) (is_seen outer w.scope stmts) h))
-      laid_seen (For p x reversed low high stmts) at w k h =
+          (by_stmts (1 ∷ at) (within_loop k w) turn (and_second (are_seen outer w.scope (roots e)) (is_seen outer w.scope stmts) h));
+      for = λ p x reversed low high stmts by_stmts at w k h.
           let v : Around = with_scope (x ∷ []) (within_loop k w) in
           let next : List PointName = row_at at 1 ∷ [] in
           let inner : List NamedPoint = laid s stmts (2 ∷ at) v next in
@@ -207,49 +218,43 @@ module _ (outer : ℕ → Bool) where
           (and_first (are_seen outer w.scope (roots low)) (are_seen outer w.scope (roots high)) bounds)
           (and_second (are_seen outer w.scope (roots low)) (are_seen outer w.scope (roots high)) bounds)) (
             refl,
-            laid_seen stmts (2 ∷ at) v next
+            by_stmts (2 ∷ at) v next
                 (and_second (are_seen outer w.scope (roots low) && are_seen outer w.scope (roots high)) (is_seen outer (x ∷ w.scope) stmts) h),
-          )
-      laid_seen (Exit p e) at w k h =
-          both _ (ends at 1 p w.in_loop w.scope w.leave) (used at p e (instruction.LeaveLoop e) w.scope _ refl refl h) (ends_seen at 1 p w.in_loop w.scope w.leave)
-      laid_seen (Return p v) at w k h =
+          );
+      exit = λ p e at w k h.
+          both _ (ends at 1 p w.in_loop w.scope w.leave) (used at p e (instruction.LeaveLoop e) w.scope _ refl refl h) (ends_seen at 1 p w.in_loop w.scope w.leave);
+      return = λ p v at w k h.
           both _ (closing at 1 p w) (used at p v (instruction.Hold v) w.scope _ refl refl h)
-          (last_seen at 1 p p w.in_all w.scope w.formals (row_at at (suc (length w.in_all))))
-      laid_seen (Block n stmts end) at w k h =
+          (last_seen at 1 p p w.in_all w.scope w.formals (row_at at (suc (length w.in_all))));
+      block = λ n stmts end by_stmts at w k h.
           let out : List NamedPoint = ends at 0 end (ending s stmts) (reverse (declared stmts) ++ w.scope) k in
           both (laid s stmts (0 ∷ at) (within_block (ending s stmts) w) (entry out k)) out
-          (laid_seen stmts (0 ∷ at) (within_block (ending s stmts) w) (entry out k) h)
-          (ends_seen at 0 end (ending s stmts) (reverse (declared stmts) ++ w.scope) k)
-      laid_seen _ at w k h = tt
-
-      branches_seen : (c : TypedCode) (at : Place) (w : Around) (k otherwise : List PointName) → is_each_seen outer w.scope c ≡ true
-          → Seen (laid_branches s c at w k otherwise)
-      branches_seen (typed.More a rest) at w k otherwise h =
+          (by_stmts (0 ∷ at) (within_block (ending s stmts) w) (entry out k) h)
+          (ends_seen at 0 end (ending s stmts) (reverse (declared stmts) ++ w.scope) k);
+      others = λ c other at w k h. rw (laid_none s c at w k other) (tt);
+      branches = λ a rest by_a by_rest at w k otherwise h.
           let behind : List NamedPoint = laid_branches s rest (1 ∷ at) w k otherwise in
           both (laid_branch s a (0 ∷ at) w k (entry behind otherwise)) behind
-          (branch_seen a (0 ∷ at) w k (entry behind otherwise) (and_first (is_seen outer w.scope a) (is_each_seen outer w.scope rest) h))
-          (branches_seen rest (1 ∷ at) w k otherwise (and_second (is_seen outer w.scope a) (is_each_seen outer w.scope rest) h))
-      branches_seen _ at w k otherwise h = tt
-
-      branch_seen : (c : TypedCode) (at : Place) (w : Around) (k otherwise : List PointName) → is_seen outer w.scope c ≡ true
-          → Seen (laid_branch s c at w k otherwise)
-      branch_seen (Branch p e stmts) at w k otherwise h =
+          (by_a (0 ∷ at) w k (entry behind otherwise) (and_first (is_seen outer w.scope a) (is_each_seen outer w.scope rest) h))
+          (by_rest (1 ∷ at) w k otherwise (and_second (is_seen outer w.scope a) (is_each_seen outer w.scope rest) h));
+      no_branches = λ c other at w k otherwise h. rw (branches_none s c at w k otherwise other) (tt);
+      branch = λ p e stmts by_stmts at w k otherwise h.
           both _ (laid s stmts (1 ∷ at) w k)
           (used at p e (instruction.Test e) w.scope _ refl refl (and_first (are_seen outer w.scope (roots e)) (is_seen outer w.scope stmts) h))
-          (laid_seen stmts (1 ∷ at) w k (and_second (are_seen outer w.scope (roots e)) (is_seen outer w.scope stmts) h))
-      branch_seen _ at w k otherwise h = tt
-
-      whens_seen : (c : TypedCode) (at : Place) (w : Around) (k : List PointName) → is_each_seen outer w.scope c ≡ true
-          → Seen (flat_map (λ ps. ps) (laid_whens s c at w k))
-      whens_seen (typed.More a rest) at w k h =
+          (by_stmts (1 ∷ at) w k (and_second (are_seen outer w.scope (roots e)) (is_seen outer w.scope stmts) h));
+      no_branch = λ c other at w k otherwise h. rw (branch_none s c at w k otherwise other) (tt);
+      alternatives = λ a rest by_a by_rest at w k h.
           both (laid_when s a (0 ∷ at) w k) (flat_map (λ ps. ps) (laid_whens s rest (1 ∷ at) w k))
-          (when_seen a (0 ∷ at) w k (and_first (is_seen outer w.scope a) (is_each_seen outer w.scope rest) h))
-          (whens_seen rest (1 ∷ at) w k (and_second (is_seen outer w.scope a) (is_each_seen outer w.scope rest) h))
-      whens_seen _ at w k h = tt
+          (by_a (0 ∷ at) w k (and_first (is_seen outer w.scope a) (is_each_seen outer w.scope rest) h))
+          (by_rest (1 ∷ at) w k (and_second (is_seen outer w.scope a) (is_each_seen outer w.scope rest) h));
+      no_alternatives = λ c other at w k h. rw (whens_none s c at w k other) (tt);
+      alternative = λ choices stmts by_stmts at w k h.
+          by_stmts (1 ∷ at) w k h;
+      no_alternative = λ c other at w k h. rw (when_none s c at w k other) (tt);
+    }
 
-      when_seen : (c : TypedCode) (at : Place) (w : Around) (k : List PointName) → is_seen outer w.scope c ≡ true → Seen (laid_when s c at w k)
-      when_seen (When choices stmts) at w k h = laid_seen stmts (1 ∷ at) w k h
-      when_seen _ at w k h = tt
+    laid_seen : (c : TypedCode) (at : Place) (w : Around) (k : List PointName) → is_seen outer w.scope c ≡ true → Seen (laid s c at w k)
+    laid_seen = on_code laid_seen_cases
 
     -- ---- subprograms
 

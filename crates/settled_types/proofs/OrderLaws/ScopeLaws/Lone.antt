@@ -16,6 +16,7 @@ use Rattle.machine.specs.flow_paths.Points.{Place, PointName, row_at, NamedPoint
 use Rattle.machine.specs.flow_paths.Prep.{Setting, held, with_held, prep}
 use Rattle.machine.specs.flow_paths.Layout.{Around, within_loop, within_block, with_scope, declared, from, ending, ends, uses, uses_both, uses_second_first, laid, laid_branches, laid_branch, laid_whens, laid_when}
 use Rattle.machine.specs.flow_paths.Laid.{declared_within, around_body, scope_at_end, function_end, procedure_end, sub_points, elaboration_points}
+use Rattle.settled_types.proofs.TypedCases.{Laws, branch_none, branches_none, laid_none, on_code, when_none, whens_none}
 use Rattle.settled_types.specs.OrderLaws.ScopeLaws.Code.{objects_of}
 use Rattle.settled_types.specs.OrderLaws.ScopeLaws.Alone.{CallsFit, CallsOnly, PassedFit, SourceFits, ValueFits, StoredFits, CodeFits, BranchesFit, BranchFits, AlternativesFit, AlternativeFits}
 use Rattle.settled_types.proofs.OrderLaws.ScopeLaws.Alone.{calls_from}
@@ -343,40 +344,50 @@ module _ (s : Setting) (whole : List NamedPoint) (ask passed alone single good :
   declare_takes : (x : ℕ) (v e : TypedTree) → v ≡ typed.More e NoMore → Takes (instruction.Declare x v) e
   declare_takes x v e is = inl (x, ap (instruction.Declare x) is)
 
-  mutual
-    unfolding laid laid_branches laid_branch laid_whens laid_when CodeFits BranchesFit BranchFits AlternativesFit AlternativeFits declared_within
-
-    laid_fine : (c : TypedCode) (at : Place) (w : Around) (k : List PointName) → CodeFits ask passed alone single c → AllGood good (declared_within c) → Within (laid s c at w k)
-        → IsGoodAround w → AreFine (laid s c at w k)
-    laid_fine (typed.More a rest) at w k (first, second) objects within fine =
+  laid_fine_cases : Laws (λ c. (at : Place) → (w : Around) → (k : List PointName) → CodeFits ask passed alone single c → AllGood good (declared_within c) → Within (laid s c at w k) → IsGoodAround w → AreFine (laid s c at w k))
+      (λ c. (at : Place) → (w : Around) → (k : List PointName) → (m : List PointName) → BranchesFit ask passed alone single c → AllGood good (declared_within c) → Within (laid_branches s c at w k m) → IsGoodAround w → AreFine (laid_branches s c at w k m))
+      (λ c. (at : Place) → (w : Around) → (k : List PointName) → (m : List PointName) → BranchFits ask passed alone single c → AllGood good (declared_within c) → Within (laid_branch s c at w k m) → IsGoodAround w → AreFine (laid_branch s c at w k m))
+      (λ c. (at : Place) → (w : Around) → (k : List PointName) → AlternativesFit ask passed alone single c → AllGood good (declared_within c) → Within (flat_map (λ ps. ps) (laid_whens s c at w k)) → IsGoodAround w → AreFine (flat_map (λ ps. ps) (laid_whens s c at w k)))
+      (λ c. (at : Place) → (w : Around) → (k : List PointName) → AlternativeFits ask passed alone single c → AllGood good (declared_within c) → Within (laid_when s c at w k) → IsGoodAround w → AreFine (laid_when s c at w k))
+  unfolding laid laid_branches laid_branch laid_whens laid_when CodeFits BranchesFit BranchFits AlternativesFit AlternativeFits declared_within
+  laid_fine_cases = record {
+    list = λ a rest by_a by_rest at w k (first, second) objects within fine.
         let inner : Around = with_scope (declared a) w in
         let behind : List NamedPoint = laid s rest (1 ∷ at) inner k in
         let before : List NamedPoint = laid s a (0 ∷ at) w (entry behind k) in
         let own : AllGood good (declared_within a) = (λ x has. objects x (Has-append_left (declared_within a) (declared_within rest) x has)) in
-        fine_both before behind (laid_fine a (0 ∷ at) w (entry behind k) first own (first_of before behind within) fine)
-        (laid_fine rest (1 ∷ at) inner k second (λ x has. objects x (Has-append_right (declared_within a) (declared_within rest) x has)) (second_of before behind within)
-        (good_both (reverse (declared a)) w.scope (reversed_good (declared a) (declared_good a own)) fine.0, fine.1))
-    laid_fine (Declare p x v) at w k fits objects within fine = value_fine at p v (instruction.Declare x v) w k (declare_takes x v) fits within fine.0
-    laid_fine (Assign p target e) at w k (only, source) objects within fine = assign_fine at p target e w k only source within fine.0
-    laid_fine (Skip p) at w k fits objects within fine = fine_one _ (inl fine.0)
-    laid_fine (typed.Call p sub actuals) at w k fits objects within fine = uses_good at p actuals (instruction.Call sub actuals None) w k (passed_more actuals fits) within fine.0
-    laid_fine (Output p text line) at w k fits objects within fine = uses_good at p text (instruction.Output text line) w k (only_more text fits) within fine.0
-    laid_fine (Input p target) at w k fits objects within fine = uses_good at p target (instruction.Input target) w k (only_more target fits) within fine.0
-    laid_fine (Release p m) at w k fits objects within fine = uses_good at p m (instruction.Release m) w k (only_more m fits) within fine.0
-    laid_fine (If branches otherwise) at w k (first, second) objects within fine =
+        fine_both before behind (by_a (0 ∷ at) w (entry behind k) first own (first_of before behind within) fine)
+        (by_rest (1 ∷ at) inner k second (λ x has. objects x (Has-append_right (declared_within a) (declared_within rest) x has)) (second_of before behind within)
+        (good_both (reverse (declared a)) w.scope (reversed_good (declared a) (declared_good a own)) fine.0, fine.1));
+    declare = λ p x v at w k fits objects within fine.
+        value_fine at p v (instruction.Declare x v) w k (declare_takes x v) fits within fine.0;
+    assign = λ p target e at w k (only, source) objects within fine.
+        assign_fine at p target e w k only source within fine.0;
+    skip = λ p at w k fits objects within fine.
+        fine_one _ (inl fine.0);
+    call = λ p sub actuals at w k fits objects within fine.
+        uses_good at p actuals (instruction.Call sub actuals None) w k (passed_more actuals fits) within fine.0;
+    output = λ p text line at w k fits objects within fine.
+        uses_good at p text (instruction.Output text line) w k (only_more text fits) within fine.0;
+    input = λ p target at w k fits objects within fine.
+        uses_good at p target (instruction.Input target) w k (only_more target fits) within fine.0;
+    release = λ p m at w k fits objects within fine.
+        uses_good at p m (instruction.Release m) w k (only_more m fits) within fine.0;
+    choice = λ branches otherwise by_branches by_otherwise at w k (first, second) objects within fine.
         let behind : List NamedPoint = laid s otherwise (1 ∷ at) w k in
         let before : List NamedPoint = laid_branches s branches (0 ∷ at) w k (entry behind k) in
         fine_both before behind
-        (branches_fine branches (0 ∷ at) w k (entry behind k) first (λ x has. objects x (Has-append_left (declared_within branches) (declared_within otherwise) x has)) (first_of before behind within) fine)
-        (laid_fine otherwise (1 ∷ at) w k second (λ x has. objects x (Has-append_right (declared_within branches) (declared_within otherwise) x has)) (second_of before behind within) fine)
-    laid_fine (Case p e whens) at w k (first, second) objects within fine =
+        (by_branches (0 ∷ at) w k (entry behind k) first (λ x has. objects x (Has-append_left (declared_within branches) (declared_within otherwise) x has)) (first_of before behind within) fine)
+        (by_otherwise (1 ∷ at) w k second (λ x has. objects x (Has-append_right (declared_within branches) (declared_within otherwise) x has)) (second_of before behind within) fine);
+    cases = λ p e whens by_whens at w k (first, second) objects within fine.
         fine_both (uses s at p e _ w _) _ (uses_good at p e _ w _ (only_more e first) (first_of (uses s at p e _ w _) _ within) fine.0)
-        (whens_fine whens (1 ∷ at) w k second objects (second_of (uses s at p e _ w _) _ within) fine)
-    laid_fine (Loop stmts) at w k fits objects within fine = laid_fine stmts (0 ∷ at) (within_loop k w) _ fits objects within fine
-    laid_fine (While p e stmts) at w k (first, second) objects within fine =
+        (by_whens (1 ∷ at) w k second objects (second_of (uses s at p e _ w _) _ within) fine);
+    loop = λ stmts by_stmts at w k fits objects within fine.
+        by_stmts (0 ∷ at) (within_loop k w) _ fits objects within fine;
+    while = λ p e stmts by_stmts at w k (first, second) objects within fine.
         fine_both (uses s at p e (instruction.Test e) w _) _ (uses_good at p e (instruction.Test e) w _ (only_more e first) (first_of (uses s at p e (instruction.Test e) w _) _ within) fine.0)
-        (laid_fine stmts (1 ∷ at) (within_loop k w) _ second objects (second_of (uses s at p e (instruction.Test e) w _) _ within) fine)
-    laid_fine (For p x reversed low high stmts) at w k (first, second, inside) objects within fine =
+        (by_stmts (1 ∷ at) (within_loop k w) _ second objects (second_of (uses s at p e (instruction.Test e) w _) _ within) fine);
+    for = λ p x reversed low high stmts by_stmts at w k (first, second, inside) objects within fine.
         let inner : Around = with_scope (x ∷ []) (within_loop k w) in
         let body : List NamedPoint = laid s stmts (2 ∷ at) inner (row_at at 1 ∷ []) in
         let middle : List ℕ = with_held s low (0 ∷ at) w.scope in
@@ -396,47 +407,41 @@ module _ (s : Setting) (whole : List NamedPoint) (ask passed alone single good :
         (points_both before behind (prep_good low (0 ∷ at) w.scope (entry behind (row_at at 0 ∷ [])) low_only low_there fine.0) (prep_good high (1 ∷ at) middle (row_at at 0 ∷ []) high_only high_there fine_middle))
         (points_one _ (evaluated_good high (1 ∷ at) middle (row_at at 0 ∷ []) high_only high_there fine_middle))))
         (fine_both (next ∷ []) body (fine_one next (inl fine_next))
-        (laid_fine stmts (2 ∷ at) inner (row_at at 1 ∷ []) inside (λ y has. objects y (inr has)) (λ r has. second_of start (next ∷ body) within r (inr has)) (fine_next, fine.1)))
-    laid_fine (Exit p e) at w k fits objects within fine =
+        (by_stmts (2 ∷ at) inner (row_at at 1 ∷ []) inside (λ y has. objects y (inr has)) (λ r has. second_of start (next ∷ body) within r (inr has)) (fine_next, fine.1)));
+    exit = λ p e at w k fits objects within fine.
         fine_both (uses s at p e (instruction.LeaveLoop e) w _) _ (uses_good at p e (instruction.LeaveLoop e) w _ (only_more e fits) (first_of (uses s at p e (instruction.LeaveLoop e) w _) _ within) fine.0)
-        (as_fine _ (ends_good at 1 p w.in_loop w.scope w.leave fine.0))
-    laid_fine (Return p v) at w k fits objects within fine =
+        (as_fine _ (ends_good at 1 p w.in_loop w.scope w.leave fine.0));
+    return = λ p v at w k fits objects within fine.
         fine_both (uses s at p v (instruction.Hold v) w _) _ (value_fine at p v (instruction.Hold v) w _ (hold_takes v) fits (first_of (uses s at p v (instruction.Hold v) w _) _ within) fine.0)
-        (fine_both (ends at 1 p w.in_all w.scope _) _ (as_fine _ (ends_good at 1 p w.in_all w.scope _ fine.0)) (fine_one _ (inl fine.1)))
-    laid_fine (Block n stmts end) at w k fits objects within fine =
+        (fine_both (ends at 1 p w.in_all w.scope _) _ (as_fine _ (ends_good at 1 p w.in_all w.scope _ fine.0)) (fine_one _ (inl fine.1)));
+    block = λ n stmts end by_stmts at w k fits objects within fine.
         fine_both (laid s stmts (0 ∷ at) (within_block (ending s stmts) w) _) _
-        (laid_fine stmts (0 ∷ at) (within_block (ending s stmts) w) _ fits objects (first_of (laid s stmts (0 ∷ at) (within_block (ending s stmts) w) _) _ within) fine)
+        (by_stmts (0 ∷ at) (within_block (ending s stmts) w) _ fits objects (first_of (laid s stmts (0 ∷ at) (within_block (ending s stmts) w) _) _ within) fine)
         (as_fine _ (ends_good at 0 end (ending s stmts) (reverse (declared stmts) ++ w.scope) k
-        (good_both (reverse (declared stmts)) w.scope (reversed_good (declared stmts) (declared_good stmts objects)) fine.0)))
-    laid_fine _ at w k fits objects within fine = λ p has. absurd has
-
-    branches_fine : (c : TypedCode) (at : Place) (w : Around) (k m : List PointName) → BranchesFit ask passed alone single c → AllGood good (declared_within c) → Within (laid_branches s c at w k m)
-        → IsGoodAround w → AreFine (laid_branches s c at w k m)
-    branches_fine (typed.More a rest) at w k m (first, second) objects within fine =
+        (good_both (reverse (declared stmts)) w.scope (reversed_good (declared stmts) (declared_good stmts objects)) fine.0)));
+    others = λ c other at w k fits objects within fine. rw (laid_none s c at w k other) (λ p has. absurd has);
+    branches = λ a rest by_a by_rest at w k m (first, second) objects within fine.
         fine_both (laid_branch s a (0 ∷ at) w k _) _
-        (branch_fine a (0 ∷ at) w k _ first (λ x has. objects x (Has-append_left (declared_within a) (declared_within rest) x has)) (first_of (laid_branch s a (0 ∷ at) w k _) _ within) fine)
-        (branches_fine rest (1 ∷ at) w k m second (λ x has. objects x (Has-append_right (declared_within a) (declared_within rest) x has)) (second_of (laid_branch s a (0 ∷ at) w k _) _ within) fine)
-    branches_fine _ at w k m fits objects within fine = λ p has. absurd has
-
-    branch_fine : (c : TypedCode) (at : Place) (w : Around) (k m : List PointName) → BranchFits ask passed alone single c → AllGood good (declared_within c) → Within (laid_branch s c at w k m)
-        → IsGoodAround w → AreFine (laid_branch s c at w k m)
-    branch_fine (Branch p e stmts) at w k m (first, second) objects within fine =
+        (by_a (0 ∷ at) w k _ first (λ x has. objects x (Has-append_left (declared_within a) (declared_within rest) x has)) (first_of (laid_branch s a (0 ∷ at) w k _) _ within) fine)
+        (by_rest (1 ∷ at) w k m second (λ x has. objects x (Has-append_right (declared_within a) (declared_within rest) x has)) (second_of (laid_branch s a (0 ∷ at) w k _) _ within) fine);
+    no_branches = λ c other at w k m fits objects within fine. rw (branches_none s c at w k m other) (λ p has. absurd has);
+    branch = λ p e stmts by_stmts at w k m (first, second) objects within fine.
         fine_both (uses s at p e (instruction.Test e) w _) _ (uses_good at p e (instruction.Test e) w _ (only_more e first) (first_of (uses s at p e (instruction.Test e) w _) _ within) fine.0)
-        (laid_fine stmts (1 ∷ at) w k second objects (second_of (uses s at p e (instruction.Test e) w _) _ within) fine)
-    branch_fine _ at w k m fits objects within fine = λ p has. absurd has
-
-    whens_fine : (c : TypedCode) (at : Place) (w : Around) (k : List PointName) → AlternativesFit ask passed alone single c → AllGood good (declared_within c)
-        → Within (flat_map (λ ps. ps) (laid_whens s c at w k)) → IsGoodAround w → AreFine (flat_map (λ ps. ps) (laid_whens s c at w k))
-    whens_fine (typed.More a rest) at w k (first, second) objects within fine =
+        (by_stmts (1 ∷ at) w k second objects (second_of (uses s at p e (instruction.Test e) w _) _ within) fine);
+    no_branch = λ c other at w k m fits objects within fine. rw (branch_none s c at w k m other) (λ p has. absurd has);
+    alternatives = λ a rest by_a by_rest at w k (first, second) objects within fine.
         fine_both (laid_when s a (0 ∷ at) w k) _
-        (when_fine a (0 ∷ at) w k first (λ x has. objects x (Has-append_left (declared_within a) (declared_within rest) x has)) (first_of (laid_when s a (0 ∷ at) w k) _ within) fine)
-        (whens_fine rest (1 ∷ at) w k second (λ x has. objects x (Has-append_right (declared_within a) (declared_within rest) x has)) (second_of (laid_when s a (0 ∷ at) w k) _ within) fine)
-    whens_fine _ at w k fits objects within fine = λ p has. absurd has
+        (by_a (0 ∷ at) w k first (λ x has. objects x (Has-append_left (declared_within a) (declared_within rest) x has)) (first_of (laid_when s a (0 ∷ at) w k) _ within) fine)
+        (by_rest (1 ∷ at) w k second (λ x has. objects x (Has-append_right (declared_within a) (declared_within rest) x has)) (second_of (laid_when s a (0 ∷ at) w k) _ within) fine);
+    no_alternatives = λ c other at w k fits objects within fine. rw (whens_none s c at w k other) (λ p has. absurd has);
+    alternative = λ choices stmts by_stmts at w k fits objects within fine.
+        by_stmts (1 ∷ at) w k fits objects within fine;
+    no_alternative = λ c other at w k fits objects within fine. rw (when_none s c at w k other) (λ p has. absurd has);
+  }
 
-    when_fine : (c : TypedCode) (at : Place) (w : Around) (k : List PointName) → AlternativeFits ask passed alone single c → AllGood good (declared_within c) → Within (laid_when s c at w k)
-        → IsGoodAround w → AreFine (laid_when s c at w k)
-    when_fine (When choices stmts) at w k fits objects within fine = laid_fine stmts (1 ∷ at) w k fits objects within fine
-    when_fine _ at w k fits objects within fine = λ p has. absurd has
+  laid_fine : (c : TypedCode) (at : Place) (w : Around) (k : List PointName) → CodeFits ask passed alone single c → AllGood good (declared_within c) → Within (laid s c at w k)
+      → IsGoodAround w → AreFine (laid s c at w k)
+  laid_fine = on_code laid_fine_cases
 
   end_scope_good : (sub : TypedSub) → AllGood good (objects_of sub) → AllGood good (scope_at_end sub)
   end_scope_good sub objects =

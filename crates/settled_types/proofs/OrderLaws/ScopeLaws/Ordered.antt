@@ -20,6 +20,7 @@ use Rattle.machine.specs.flow_paths.Laid.{around_body, scope_at_end, procedure_e
 use Rattle.machine.specs.flow_paths.Scopes.{is_ready, is_last, leaves_silently, is_declaration, is_undeclaring, is_settled}
 use Rattle.flow_paths.proofs.Unwinding.{Unwinds, Loose, unwinds_silent}
 use Rattle.flow_paths.proofs.StatementScopes.{after, after_undeclaring, after_more, ended}
+use Rattle.settled_types.proofs.TypedCases.{Laws, branch_none, branches_none, laid_none, on_code, when_none, whens_none}
 use Rattle.settled_types.specs.OrderLaws.ScopeLaws.Code.{Once, objects_of}
 use Rattle.settled_types.specs.OrderLaws.ScopeLaws.Order.{IsOrdered}
 use Rattle.settled_types.proofs.OrderLaws.ScopeLaws.Lists.{and_first, and_second, all_both, all_one, all_if, outside, has_reverse, once_left, once_right, once_apart}
@@ -334,12 +335,14 @@ module _ (s : Setting) (is : ℕ → Type 0) (apart : (x : ℕ) → is x → IsT
   no_more [] = refl
   no_more (x ∷ xs) = ap (λ ys. x ∷ ys) (no_more xs)
 
-  mutual
-    unfolding laid is_settled is_undeclaring declared declared_within
-
-    laid_ordered : (c : TypedCode) (at : Place) (w : Around) (k : List PointName) → is_settled s.typing c ≡ true
-        → (is_declaration c ≡ false → Stands w (after c w.scope)) → Fresh (declared_within c) w.scope → Ordered w.formals (laid s c at w k)
-    laid_ordered (typed.More a rest) at w k h st f =
+  laid_ordered_cases : Laws (λ c. (at : Place) → (w : Around) → (k : List PointName) → is_settled s.typing c ≡ true → (is_declaration c ≡ false → Stands w (after c w.scope)) → Fresh (declared_within c) w.scope → Ordered w.formals (laid s c at w k))
+      (λ c. (at : Place) → (w : Around) → (k : List PointName) → (otherwise : List PointName) → is_settled s.typing c ≡ true → Stands w w.scope → Fresh (declared_within c) w.scope → Ordered w.formals (laid_branches s c at w k otherwise))
+      (λ c. (at : Place) → (w : Around) → (k : List PointName) → (otherwise : List PointName) → is_settled s.typing c ≡ true → Stands w w.scope → Fresh (declared_within c) w.scope → Ordered w.formals (laid_branch s c at w k otherwise))
+      (λ c. (at : Place) → (w : Around) → (k : List PointName) → is_settled s.typing c ≡ true → Stands w w.scope → Fresh (declared_within c) w.scope → Ordered w.formals (flat_map (λ ps. ps) (laid_whens s c at w k)))
+      (λ c. (at : Place) → (w : Around) → (k : List PointName) → is_settled s.typing c ≡ true → Stands w w.scope → Fresh (declared_within c) w.scope → Ordered w.formals (laid_when s c at w k))
+  unfolding laid is_settled is_undeclaring declared declared_within
+  laid_ordered_cases = record {
+    list = λ a rest by_a by_rest at w k h st f.
         let first : is_settled s.typing a ≡ true = and_first (is_settled s.typing a) _ h in
         let more : (is_settled s.typing rest && (is_declaration a || is_undeclaring rest)) ≡ true = and_second (is_settled s.typing a) _ h in
         let second : is_settled s.typing rest ≡ true = and_first (is_settled s.typing rest) _ more in
@@ -349,43 +352,48 @@ module _ (s : Setting) (is : ℕ → Type 0) (apart : (x : ℕ) → is x → IsT
         (λ none. subst (λ sc. Stands w sc)
         (after_undeclaring rest (after a w.scope) (or_second (is_declaration a) (is_undeclaring rest) (and_second (is_settled s.typing rest) _ more) none)) stands) in
         both w.formals (laid s a (0 ∷ at) w (entry behind k)) behind
-        (laid_ordered a (0 ∷ at) w (entry behind k) first stands_a (fresh_left (declared_within a) (declared_within rest) w.scope f))
-        (laid_ordered rest (1 ∷ at) (with_scope (declared a) w) k second (λ none. stands)
-        (fresh_behind (declared_within a) (declared_within rest) (declared a) w.scope (declared_within_has a) f))
-    laid_ordered (Declare p x v) at w k h st f =
+        (by_a (0 ∷ at) w (entry behind k) first stands_a (fresh_left (declared_within a) (declared_within rest) w.scope f))
+        (by_rest (1 ∷ at) (with_scope (declared a) w) k second (λ none. stands)
+        (fresh_behind (declared_within a) (declared_within rest) (declared a) w.scope (declared_within_has a) f));
+    declare = λ p x v at w k h st f.
         used w.formals at v w.scope _
         (declares_there w.formals (row_at at 0) p x v (with_held s v (0 ∷ at) w.scope) k (f.1 x (inl refl)).0
-        (new_there v (0 ∷ at) x w.scope (f.1 x (inl refl)).0 (f.1 x (inl refl)).1))
-    laid_ordered (Assign p target e) at w k h st f =
-        paired w.formals at (1 ∷ at) (0 ∷ at) e target w.scope (with_held s e (1 ∷ at) w.scope) _ (quiet w.formals _ refl)
-    laid_ordered (Skip p) at w k h st f = (quiet w.formals _ refl, tt)
-    laid_ordered (typed.Call p sub actuals) at w k h st f = used w.formals at actuals w.scope _ (quiet w.formals _ refl)
-    laid_ordered (Output p text line) at w k h st f = used w.formals at text w.scope _ (quiet w.formals _ refl)
-    laid_ordered (Input p target) at w k h st f = used w.formals at target w.scope _ (quiet w.formals _ refl)
-    laid_ordered (Release p m) at w k h st f = used w.formals at m w.scope _ (quiet w.formals _ refl)
-    laid_ordered (If branches otherwise) at w k h st f =
+        (new_there v (0 ∷ at) x w.scope (f.1 x (inl refl)).0 (f.1 x (inl refl)).1));
+    assign = λ p target e at w k h st f.
+        paired w.formals at (1 ∷ at) (0 ∷ at) e target w.scope (with_held s e (1 ∷ at) w.scope) _ (quiet w.formals _ refl);
+    skip = λ p at w k h st f.
+        (quiet w.formals _ refl, tt);
+    call = λ p sub actuals at w k h st f.
+        used w.formals at actuals w.scope _ (quiet w.formals _ refl);
+    output = λ p text line at w k h st f.
+        used w.formals at text w.scope _ (quiet w.formals _ refl);
+    input = λ p target at w k h st f.
+        used w.formals at target w.scope _ (quiet w.formals _ refl);
+    release = λ p m at w k h st f.
+        used w.formals at m w.scope _ (quiet w.formals _ refl);
+    choice = λ branches otherwise by_branches by_otherwise at w k h st f.
         let first : is_settled s.typing branches ≡ true = and_first (is_settled s.typing branches) _ h in
         let more : (is_settled s.typing otherwise && is_undeclaring otherwise) ≡ true = and_second (is_settled s.typing branches) _ h in
         let none : after otherwise w.scope ≡ w.scope = after_undeclaring otherwise w.scope (and_second (is_settled s.typing otherwise) _ more) in
         let behind : List NamedPoint = laid s otherwise (1 ∷ at) w k in
         both w.formals (laid_branches s branches (0 ∷ at) w k (entry behind k)) behind
-        (branches_ordered branches (0 ∷ at) w k (entry behind k) first (st refl) (fresh_left (declared_within branches) (declared_within otherwise) w.scope f))
-        (laid_ordered otherwise (1 ∷ at) w k (and_first (is_settled s.typing otherwise) _ more) (λ any. subst (λ sc. Stands w sc) (sym none) (st refl))
-        (fresh_right (declared_within branches) (declared_within otherwise) w.scope f))
-    laid_ordered (Case p e whens) at w k h st f =
+        (by_branches (0 ∷ at) w k (entry behind k) first (st refl) (fresh_left (declared_within branches) (declared_within otherwise) w.scope f))
+        (by_otherwise (1 ∷ at) w k (and_first (is_settled s.typing otherwise) _ more) (λ any. subst (λ sc. Stands w sc) (sym none) (st refl))
+        (fresh_right (declared_within branches) (declared_within otherwise) w.scope f));
+    cases = λ p e whens by_whens at w k h st f.
         both w.formals _ (flat_map (λ ps. ps) (laid_whens s whens (1 ∷ at) w k)) (used w.formals at e w.scope _ (quiet w.formals _ refl))
-        (whens_ordered whens (1 ∷ at) w k h (st refl) f)
-    laid_ordered (Loop stmts) at w k h st f =
+        (by_whens (1 ∷ at) w k h (st refl) f);
+    loop = λ stmts by_stmts at w k h st f.
         let none : after stmts w.scope ≡ w.scope = after_undeclaring stmts w.scope (and_second (is_settled s.typing stmts) _ h) in
-        laid_ordered stmts (0 ∷ at) (within_loop k w) _ (and_first (is_settled s.typing stmts) _ h)
-        (λ any. subst (λ sc. Stands (within_loop k w) sc) (sym none) (inside k w w.scope (st refl))) f
-    laid_ordered (While p e stmts) at w k h st f =
+        by_stmts (0 ∷ at) (within_loop k w) _ (and_first (is_settled s.typing stmts) _ h)
+        (λ any. subst (λ sc. Stands (within_loop k w) sc) (sym none) (inside k w w.scope (st refl))) f;
+    while = λ p e stmts by_stmts at w k h st f.
         let none : after stmts w.scope ≡ w.scope = after_undeclaring stmts w.scope (and_second (is_settled s.typing stmts) _ h) in
         let turn : List PointName = entry (prep s e (0 ∷ at) w.scope (row_at at 0 ∷ [])) (row_at at 0 ∷ []) in
         both w.formals _ (laid s stmts (1 ∷ at) (within_loop k w) turn) (used w.formals at e w.scope _ (quiet w.formals _ refl))
-        (laid_ordered stmts (1 ∷ at) (within_loop k w) turn (and_first (is_settled s.typing stmts) _ h)
-        (λ any. subst (λ sc. Stands (within_loop k w) sc) (sym none) (inside k w w.scope (st refl))) f)
-    laid_ordered (For p x reversed low high stmts) at w k h st f =
+        (by_stmts (1 ∷ at) (within_loop k w) turn (and_first (is_settled s.typing stmts) _ h)
+        (λ any. subst (λ sc. Stands (within_loop k w) sc) (sym none) (inside k w w.scope (st refl))) f);
+    for = λ p x reversed low high stmts by_stmts at w k h st f.
         let silent : leaves_silently s.typing x ≡ true = and_first (leaves_silently s.typing x) _ h in
         let more : (is_settled s.typing stmts && is_undeclaring stmts) ≡ true = and_second (leaves_silently s.typing x) _ h in
         let none : after stmts (x ∷ w.scope) ≡ x ∷ w.scope = after_undeclaring stmts (x ∷ w.scope) (and_second (is_settled s.typing stmts) _ more) in
@@ -399,61 +407,54 @@ module _ (s : Setting) (is : ℕ → Type 0) (apart : (x : ℕ) → is x → IsT
         (starts_there w.formals (row_at at 0) p x reversed low high (with_held s high (1 ∷ at) (with_held s low (0 ∷ at) w.scope)) (next ∷ [])
         (new_there high (1 ∷ at) x (with_held s low (0 ∷ at) w.scope) what.0 (new_there low (0 ∷ at) x w.scope what.0 what.1)))) (
           next_there w.formals next p x reversed low high w.scope _,
-          laid_ordered stmts (2 ∷ at) v (next ∷ []) (and_first (is_settled s.typing stmts) _ more) (λ any. subst (λ sc. Stands v sc) (sym none) around)
+          by_stmts (2 ∷ at) v (next ∷ []) (and_first (is_settled s.typing stmts) _ more) (λ any. subst (λ sc. Stands v sc) (sym none) around)
               (fresh_inner x (declared_within stmts) w.scope f),
-        )
-    laid_ordered (Exit p e) at w k h st f =
+        );
+    exit = λ p e at w k h st f.
         let out : List NamedPoint = ends at 1 p w.in_loop w.scope w.leave in
         both w.formals _ out (used w.formals at e w.scope _ (quiet w.formals _ refl))
-        (ends_ordered w.formals at 1 p w.in_loop w.scope w.leave (st refl).1.0 (st refl).0.0)
-    laid_ordered (Return p v) at w k h st f =
+        (ends_ordered w.formals at 1 p w.in_loop w.scope w.leave (st refl).1.0 (st refl).0.0);
+    return = λ p v at w k h st f.
         both w.formals _ (closing at 1 p w) (used w.formals at v w.scope _ (quiet w.formals _ refl))
-        (last_ordered at 1 p p w.in_all w.scope w.formals (row_at at (suc (length w.in_all))) (st refl).1.1 (st refl).0.1)
-    laid_ordered (Block n stmts end) at w k h st f =
+        (last_ordered at 1 p p w.in_all w.scope w.formals (row_at at (suc (length w.in_all))) (st refl).1.1 (st refl).0.1);
+    block = λ n stmts end by_stmts at w k h st f.
         let v : Around = within_block (ending s stmts) w in
         let each : Each (declared_within stmts) = (λ x has. (f.1 x has).0) in
         let out : List NamedPoint = ends at 0 end (ending s stmts) (reverse (declared stmts) ++ w.scope) k in
         let own : Unwinds s.typing Any (ending s stmts ++ []) (after stmts w.scope) = ended s Any loose stmts [] w.scope h tt in
         both w.formals (laid s stmts (0 ∷ at) v (entry out k)) out
-        (laid_ordered stmts (0 ∷ at) v (entry out k) h (λ any. stands_block stmts w h each (st refl)) f)
+        (by_stmts (0 ∷ at) v (entry out k) h (λ any. stands_block stmts w h each (st refl)) f)
         (ends_ordered w.formals at 0 end (ending s stmts) (after stmts w.scope) k (ending_each stmts each)
-        (subst (λ xs. Unwinds s.typing Any xs (after stmts w.scope)) (no_more (ending s stmts)) own))
-    laid_ordered _ at w k h st f = tt
-
-    branches_ordered : (c : TypedCode) (at : Place) (w : Around) (k otherwise : List PointName) → is_settled s.typing c ≡ true → Stands w w.scope
-        → Fresh (declared_within c) w.scope → Ordered w.formals (laid_branches s c at w k otherwise)
-    branches_ordered (typed.More a rest) at w k otherwise h st f =
+        (subst (λ xs. Unwinds s.typing Any xs (after stmts w.scope)) (no_more (ending s stmts)) own));
+    others = λ c other at w k h st f. rw (laid_none s c at w k other) (tt);
+    branches = λ a rest by_a by_rest at w k otherwise h st f.
         let behind : List NamedPoint = laid_branches s rest (1 ∷ at) w k otherwise in
         both w.formals (laid_branch s a (0 ∷ at) w k (entry behind otherwise)) behind
-        (branch_ordered a (0 ∷ at) w k (entry behind otherwise) (and_first (is_settled s.typing a) _ h) st
+        (by_a (0 ∷ at) w k (entry behind otherwise) (and_first (is_settled s.typing a) _ h) st
         (fresh_left (declared_within a) (declared_within rest) w.scope f))
-        (branches_ordered rest (1 ∷ at) w k otherwise (and_first (is_settled s.typing rest) _ (and_second (is_settled s.typing a) _ h)) st
-        (fresh_right (declared_within a) (declared_within rest) w.scope f))
-    branches_ordered _ at w k otherwise h st f = tt
-
-    branch_ordered : (c : TypedCode) (at : Place) (w : Around) (k otherwise : List PointName) → is_settled s.typing c ≡ true → Stands w w.scope
-        → Fresh (declared_within c) w.scope → Ordered w.formals (laid_branch s c at w k otherwise)
-    branch_ordered (Branch p e stmts) at w k otherwise h st f =
+        (by_rest (1 ∷ at) w k otherwise (and_first (is_settled s.typing rest) _ (and_second (is_settled s.typing a) _ h)) st
+        (fresh_right (declared_within a) (declared_within rest) w.scope f));
+    no_branches = λ c other at w k otherwise h st f. rw (branches_none s c at w k otherwise other) (tt);
+    branch = λ p e stmts by_stmts at w k otherwise h st f.
         let none : after stmts w.scope ≡ w.scope = after_undeclaring stmts w.scope (and_second (is_settled s.typing stmts) _ h) in
         both w.formals _ (laid s stmts (1 ∷ at) w k) (used w.formals at e w.scope _ (quiet w.formals _ refl))
-        (laid_ordered stmts (1 ∷ at) w k (and_first (is_settled s.typing stmts) _ h) (λ any. subst (λ sc. Stands w sc) (sym none) st) f)
-    branch_ordered _ at w k otherwise h st f = tt
-
-    whens_ordered : (c : TypedCode) (at : Place) (w : Around) (k : List PointName) → is_settled s.typing c ≡ true → Stands w w.scope
-        → Fresh (declared_within c) w.scope → Ordered w.formals (flat_map (λ ps. ps) (laid_whens s c at w k))
-    whens_ordered (typed.More a rest) at w k h st f =
+        (by_stmts (1 ∷ at) w k (and_first (is_settled s.typing stmts) _ h) (λ any. subst (λ sc. Stands w sc) (sym none) st) f);
+    no_branch = λ c other at w k otherwise h st f. rw (branch_none s c at w k otherwise other) (tt);
+    alternatives = λ a rest by_a by_rest at w k h st f.
         both w.formals (laid_when s a (0 ∷ at) w k) (flat_map (λ ps. ps) (laid_whens s rest (1 ∷ at) w k))
-        (when_ordered a (0 ∷ at) w k (and_first (is_settled s.typing a) _ h) st (fresh_left (declared_within a) (declared_within rest) w.scope f))
-        (whens_ordered rest (1 ∷ at) w k (and_first (is_settled s.typing rest) _ (and_second (is_settled s.typing a) _ h)) st
-        (fresh_right (declared_within a) (declared_within rest) w.scope f))
-    whens_ordered _ at w k h st f = tt
-
-    when_ordered : (c : TypedCode) (at : Place) (w : Around) (k : List PointName) → is_settled s.typing c ≡ true → Stands w w.scope
-        → Fresh (declared_within c) w.scope → Ordered w.formals (laid_when s c at w k)
-    when_ordered (When choices stmts) at w k h st f =
+        (by_a (0 ∷ at) w k (and_first (is_settled s.typing a) _ h) st (fresh_left (declared_within a) (declared_within rest) w.scope f))
+        (by_rest (1 ∷ at) w k (and_first (is_settled s.typing rest) _ (and_second (is_settled s.typing a) _ h)) st
+        (fresh_right (declared_within a) (declared_within rest) w.scope f));
+    no_alternatives = λ c other at w k h st f. rw (whens_none s c at w k other) (tt);
+    alternative = λ choices stmts by_stmts at w k h st f.
         let none : after stmts w.scope ≡ w.scope = after_undeclaring stmts w.scope (and_second (is_settled s.typing stmts) _ h) in
-        laid_ordered stmts (1 ∷ at) w k (and_first (is_settled s.typing stmts) _ h) (λ any. subst (λ sc. Stands w sc) (sym none) st) f
-    when_ordered _ at w k h st f = tt
+        by_stmts (1 ∷ at) w k (and_first (is_settled s.typing stmts) _ h) (λ any. subst (λ sc. Stands w sc) (sym none) st) f;
+    no_alternative = λ c other at w k h st f. rw (when_none s c at w k other) (tt);
+  }
+
+  laid_ordered : (c : TypedCode) (at : Place) (w : Around) (k : List PointName) → is_settled s.typing c ≡ true
+      → (is_declaration c ≡ false → Stands w (after c w.scope)) → Fresh (declared_within c) w.scope → Ordered w.formals (laid s c at w k)
+  laid_ordered = on_code laid_ordered_cases
 
   -- ---- subprograms
 

@@ -16,6 +16,7 @@ use Rattle.machine.specs.flow_paths.Prep.{Setting, held, with_held, prep}
 use Rattle.machine.specs.flow_paths.Layout.{Around, within_loop, within_block, with_scope, declared, ending, ends, closing, uses, choices_of, laid, laid_branches, laid_branch, laid_whens, laid_when}
 use Rattle.machine.specs.flow_paths.Laid.{around_body, scope_at_end, procedure_end, function_end, sub_points, elaboration_points, declared_within}
 use Rattle.machine.specs.flow_paths.Scopes.{is_temporary, is_declaration, is_undeclaring, is_settled}
+use Rattle.settled_types.proofs.TypedCases.{Laws, branch_none, branches_none, laid_none, on_code, when_none, whens_none}
 use Rattle.settled_types.proofs.OrderLaws.ScopeLaws.Lists.{has_reverse}
 use Rattle.settled_types.proofs.OrderLaws.ScopeLaws.Ordered.{declared_within_has}
 
@@ -148,75 +149,82 @@ module _ (y s : Typing) (f : Place → ℕ) where
   ending_same stmts alike =
       filter_same (has_scope_end y) (has_scope_end s) (reverse (declared stmts)) (λ x has. (alike x (declared_within_has stmts x (has_reverse (declared stmts) x has))).0)
 
-  mutual
-    unfolding laid laid_branches laid_branch laid_whens laid_when declared_within
-
-    laid_same : (c : TypedCode) (at : Place) (w : Around) (k : List PointName) → AreAlike (declared_within c) → laid after c at w k ≡ laid before c at w k
-    laid_same (typed.More a rest) at w k alike =
+  laid_same_cases : Laws (λ c. (at : Place) → (w : Around) → (k : List PointName) → AreAlike (declared_within c) → laid after c at w k ≡ laid before c at w k)
+      (λ c. (at : Place) → (w : Around) → (k : List PointName) → (otherwise : List PointName) → AreAlike (declared_within c) → laid_branches after c at w k otherwise ≡ laid_branches before c at w k otherwise)
+      (λ c. (at : Place) → (w : Around) → (k : List PointName) → (otherwise : List PointName) → AreAlike (declared_within c) → laid_branch after c at w k otherwise ≡ laid_branch before c at w k otherwise)
+      (λ c. (at : Place) → (w : Around) → (k : List PointName) → AreAlike (declared_within c) → laid_whens after c at w k ≡ laid_whens before c at w k)
+      (λ c. (at : Place) → (w : Around) → (k : List PointName) → AreAlike (declared_within c) → laid_when after c at w k ≡ laid_when before c at w k)
+  unfolding laid laid_branches laid_branch laid_whens laid_when declared_within
+  laid_same_cases = record {
+    list = λ a rest by_a by_rest at w k alike.
         pair_same (λ l. laid after a (0 ∷ at) w l) (λ l. laid before a (0 ∷ at) w l) _ _ k
-        (λ l. laid_same a (0 ∷ at) w l (alike_left (declared_within a) (declared_within rest) alike))
-        (laid_same rest (1 ∷ at) (with_scope (declared a) w) k (alike_right (declared_within a) (declared_within rest) alike))
-    laid_same (Declare p x v) at w k alike = uses_same at p v (instruction.Declare x v) w k
-    laid_same (Assign p target e) at w k alike = two_same e target (1 ∷ at) (0 ∷ at) w.scope (row_at at 0 ∷ []) (λ xs. point (row_at at 0) p (instruction.Assign target e) xs k)
-    laid_same (Skip p) at w k alike = refl
-    laid_same (typed.Call p sub actuals) at w k alike = uses_same at p actuals (instruction.Call sub actuals None) w k
-    laid_same (Output p text line) at w k alike = uses_same at p text (instruction.Output text line) w k
-    laid_same (Input p target) at w k alike = uses_same at p target (instruction.Input target) w k
-    laid_same (Release p m) at w k alike = uses_same at p m (instruction.Release m) w k
-    laid_same (If branches otherwise) at w k alike =
+        (λ l. by_a (0 ∷ at) w l (alike_left (declared_within a) (declared_within rest) alike))
+        (by_rest (1 ∷ at) (with_scope (declared a) w) k (alike_right (declared_within a) (declared_within rest) alike));
+    declare = λ p x v at w k alike.
+        uses_same at p v (instruction.Declare x v) w k;
+    assign = λ p target e at w k alike.
+        two_same e target (1 ∷ at) (0 ∷ at) w.scope (row_at at 0 ∷ []) (λ xs. point (row_at at 0) p (instruction.Assign target e) xs k);
+    skip = λ p at w k alike.
+        refl;
+    call = λ p sub actuals at w k alike.
+        uses_same at p actuals (instruction.Call sub actuals None) w k;
+    output = λ p text line at w k alike.
+        uses_same at p text (instruction.Output text line) w k;
+    input = λ p target at w k alike.
+        uses_same at p target (instruction.Input target) w k;
+    release = λ p m at w k alike.
+        uses_same at p m (instruction.Release m) w k;
+    choice = λ branches otherwise by_branches by_otherwise at w k alike.
         pair_same (λ l. laid_branches after branches (0 ∷ at) w k l) (λ l. laid_branches before branches (0 ∷ at) w k l) _ _ k
-        (λ l. branches_same branches (0 ∷ at) w k l (alike_left (declared_within branches) (declared_within otherwise) alike))
-        (laid_same otherwise (1 ∷ at) w k (alike_right (declared_within branches) (declared_within otherwise) alike))
-    laid_same (Case p e whens) at w k alike =
+        (λ l. by_branches (0 ∷ at) w k l (alike_left (declared_within branches) (declared_within otherwise) alike))
+        (by_otherwise (1 ∷ at) w k (alike_right (declared_within branches) (declared_within otherwise) alike));
+    cases = λ p e whens by_whens at w k alike.
         uses_more at p e (instruction.Choose e (choices_of whens)) w _ _ _ _
-        (ap (λ (pss : List (List NamedPoint)). flat_map (λ ps. entry ps k) pss) (whens_same whens (1 ∷ at) w k alike)) (ap (λ (pss : List (List NamedPoint)). flat_map (λ ps. ps) pss) (whens_same whens (1 ∷ at) w k alike))
-    laid_same (Loop stmts) at w k alike =
-        ap (λ ps. laid after stmts (0 ∷ at) (within_loop k w) (entry ps k)) (laid_same stmts (0 ∷ at) (within_loop k w) k alike)
-        ∙ laid_same stmts (0 ∷ at) (within_loop k w) (entry (laid before stmts (0 ∷ at) (within_loop k w) k) k) alike
-    laid_same (While p e stmts) at w k alike =
+        (ap (λ (pss : List (List NamedPoint)). flat_map (λ ps. entry ps k) pss) (by_whens (1 ∷ at) w k alike)) (ap (λ (pss : List (List NamedPoint)). flat_map (λ ps. ps) pss) (by_whens (1 ∷ at) w k alike));
+    loop = λ stmts by_stmts at w k alike.
+        ap (λ ps. laid after stmts (0 ∷ at) (within_loop k w) (entry ps k)) (by_stmts (0 ∷ at) (within_loop k w) k alike)
+        ∙ by_stmts (0 ∷ at) (within_loop k w) (entry (laid before stmts (0 ∷ at) (within_loop k w) k) k) alike;
+    while = λ p e stmts by_stmts at w k alike.
         let turn : List PointName = entry (prep after e (0 ∷ at) w.scope (row_at at 0 ∷ [])) (row_at at 0 ∷ []) in
         let turned : List PointName = entry (prep before e (0 ∷ at) w.scope (row_at at 0 ∷ [])) (row_at at 0 ∷ []) in
         let same : turn ≡ turned = ap (λ ps. entry ps (row_at at 0 ∷ [])) (prep_same e (0 ∷ at) w.scope (row_at at 0 ∷ [])) in
-        let inner = ap (λ l. laid after stmts (1 ∷ at) (within_loop k w) l) same ∙ laid_same stmts (1 ∷ at) (within_loop k w) turned alike in
+        let inner = ap (λ l. laid after stmts (1 ∷ at) (within_loop k w) l) same ∙ by_stmts (1 ∷ at) (within_loop k w) turned alike in
         uses_more at p e (instruction.Test e) w _ _ _ _
-        (ap (λ ps. entry ps turn ++ k) inner ∙ ap (λ l. entry (laid before stmts (1 ∷ at) (within_loop k w) turned) l ++ k) same) inner
-    laid_same (For p x reversed low high stmts) at w k alike =
+        (ap (λ ps. entry ps turn ++ k) inner ∙ ap (λ l. entry (laid before stmts (1 ∷ at) (within_loop k w) turned) l ++ k) same) inner;
+    for = λ p x reversed low high stmts by_stmts at w k alike.
         let next : List PointName = row_at at 1 ∷ [] in
-        let inner = laid_same stmts (2 ∷ at) (with_scope (x ∷ []) (within_loop k w)) next (λ z has. alike z (inr has)) in
+        let inner = by_stmts (2 ∷ at) (with_scope (x ∷ []) (within_loop k w)) next (λ z has. alike z (inr has)) in
         more_same _ _ _ _ (two_same low high (0 ∷ at) (1 ∷ at) w.scope (row_at at 0 ∷ []) (λ xs. point (row_at at 0) p (instruction.Start x reversed low high) xs next))
-        (ap (λ ps. point (row_at at 1) p (instruction.Next x reversed low high) (x ∷ w.scope) (entry ps next ++ k) ∷ ps) inner)
-    laid_same (Exit p e) at w k alike = ap (λ ps. ps ++ ends at 1 p w.in_loop w.scope w.leave) (uses_same at p e (instruction.LeaveLoop e) w _)
-    laid_same (Return p v) at w k alike = ap (λ ps. ps ++ closing at 1 p w) (uses_same at p v (instruction.Hold v) w _)
-    laid_same (Block n stmts end) at w k alike =
+        (ap (λ ps. point (row_at at 1) p (instruction.Next x reversed low high) (x ∷ w.scope) (entry ps next ++ k) ∷ ps) inner);
+    exit = λ p e at w k alike.
+        ap (λ ps. ps ++ ends at 1 p w.in_loop w.scope w.leave) (uses_same at p e (instruction.LeaveLoop e) w _);
+    return = λ p v at w k alike.
+        ap (λ ps. ps ++ closing at 1 p w) (uses_same at p v (instruction.Hold v) w _);
+    block = λ n stmts end by_stmts at w k alike.
         let same = ending_same stmts alike in
         ap (λ xs. laid after stmts (0 ∷ at) (within_block xs w) (entry (ends at 0 end xs (reverse (declared stmts) ++ w.scope) k) k) ++ ends at 0 end xs (reverse (declared stmts) ++ w.scope) k) same
-        ∙ ap (λ ps. ps ++ ends at 0 end (ending before stmts) (reverse (declared stmts) ++ w.scope) k) (laid_same stmts (0 ∷ at) (within_block (ending before stmts) w) _ alike)
-    laid_same _ at w k alike = refl
-
-    branches_same : (c : TypedCode) (at : Place) (w : Around) (k otherwise : List PointName) → AreAlike (declared_within c)
-        → laid_branches after c at w k otherwise ≡ laid_branches before c at w k otherwise
-    branches_same (typed.More a rest) at w k otherwise alike =
+        ∙ ap (λ ps. ps ++ ends at 0 end (ending before stmts) (reverse (declared stmts) ++ w.scope) k) (by_stmts (0 ∷ at) (within_block (ending before stmts) w) _ alike);
+    others = λ c other at w k alike. rw (laid_none after c at w k other) rw (laid_none before c at w k other) (refl);
+    branches = λ a rest by_a by_rest at w k otherwise alike.
         pair_same (λ l. laid_branch after a (0 ∷ at) w k l) (λ l. laid_branch before a (0 ∷ at) w k l) _ _ otherwise
-        (λ l. branch_same a (0 ∷ at) w k l (alike_left (declared_within a) (declared_within rest) alike))
-        (branches_same rest (1 ∷ at) w k otherwise (alike_right (declared_within a) (declared_within rest) alike))
-    branches_same _ at w k otherwise alike = refl
+        (λ l. by_a (0 ∷ at) w k l (alike_left (declared_within a) (declared_within rest) alike))
+        (by_rest (1 ∷ at) w k otherwise (alike_right (declared_within a) (declared_within rest) alike));
+    no_branches = λ c other at w k otherwise alike. rw (branches_none after c at w k otherwise other) rw (branches_none before c at w k otherwise other) (refl);
+    branch = λ p e stmts by_stmts at w k otherwise alike.
+        let inner = by_stmts (1 ∷ at) w k alike in
+        uses_more at p e (instruction.Test e) w _ _ _ _ (ap (λ ps. entry ps k ++ otherwise) inner) inner;
+    no_branch = λ c other at w k otherwise alike. rw (branch_none after c at w k otherwise other) rw (branch_none before c at w k otherwise other) (refl);
+    alternatives = λ a rest by_a by_rest at w k alike.
+        ap (λ ps. ps ∷ laid_whens after rest (1 ∷ at) w k) (by_a (0 ∷ at) w k (alike_left (declared_within a) (declared_within rest) alike))
+        ∙ ap (λ pss. laid_when before a (0 ∷ at) w k ∷ pss) (by_rest (1 ∷ at) w k (alike_right (declared_within a) (declared_within rest) alike));
+    no_alternatives = λ c other at w k alike. rw (whens_none after c at w k other) rw (whens_none before c at w k other) (refl);
+    alternative = λ choices stmts by_stmts at w k alike.
+        by_stmts (1 ∷ at) w k alike;
+    no_alternative = λ c other at w k alike. rw (when_none after c at w k other) rw (when_none before c at w k other) (refl);
+  }
 
-    branch_same : (c : TypedCode) (at : Place) (w : Around) (k otherwise : List PointName) → AreAlike (declared_within c)
-        → laid_branch after c at w k otherwise ≡ laid_branch before c at w k otherwise
-    branch_same (Branch p e stmts) at w k otherwise alike =
-        let inner = laid_same stmts (1 ∷ at) w k alike in
-        uses_more at p e (instruction.Test e) w _ _ _ _ (ap (λ ps. entry ps k ++ otherwise) inner) inner
-    branch_same _ at w k otherwise alike = refl
-
-    whens_same : (c : TypedCode) (at : Place) (w : Around) (k : List PointName) → AreAlike (declared_within c) → laid_whens after c at w k ≡ laid_whens before c at w k
-    whens_same (typed.More a rest) at w k alike =
-        ap (λ ps. ps ∷ laid_whens after rest (1 ∷ at) w k) (when_same a (0 ∷ at) w k (alike_left (declared_within a) (declared_within rest) alike))
-        ∙ ap (λ pss. laid_when before a (0 ∷ at) w k ∷ pss) (whens_same rest (1 ∷ at) w k (alike_right (declared_within a) (declared_within rest) alike))
-    whens_same _ at w k alike = refl
-
-    when_same : (c : TypedCode) (at : Place) (w : Around) (k : List PointName) → AreAlike (declared_within c) → laid_when after c at w k ≡ laid_when before c at w k
-    when_same (When choices stmts) at w k alike = laid_same stmts (1 ∷ at) w k alike
-    when_same _ at w k alike = refl
+  laid_same : (c : TypedCode) (at : Place) (w : Around) (k : List PointName) → AreAlike (declared_within c) → laid after c at w k ≡ laid before c at w k
+  laid_same = on_code laid_same_cases
 
   -- ---- subprograms
 

@@ -15,6 +15,7 @@ use Rattle.machine.specs.flow_paths.Points.{Place, PointName, row_at, NamedPoint
 use Rattle.machine.specs.flow_paths.Prep.{Setting, with_held, prep}
 use Rattle.machine.specs.flow_paths.Layout.{Around, within_loop, within_block, with_scope, declared, from, ending, ends, closing, uses, unless_empty, choices_of, laid, laid_branches, laid_branch, laid_whens, laid_when}
 use Rattle.machine.specs.flow_paths.Laid.{around_body, function_end, procedure_end, body_points, sub_points}
+use Rattle.settled_types.proofs.TypedCases.{Laws, branch_none, branches_none, laid_none, on_code, when_none, whens_none}
 use Rattle.settled_types.specs.OrderLaws.ScopeLaws.Returning.{is_return, is_finish, IsReturned, IsOpen, All, Stands, StartsAtZero, returns, closes, goes}
 use Rattle.settled_types.proofs.OrderLaws.ScopeLaws.Lists.{all_both}
 
@@ -287,42 +288,51 @@ module _ (W : List NamedPoint) where
     lists_open [] k first on = no_name (IsOpen W)
     lists_open (ps ∷ pss) k first on = all_names (IsOpen W) (entry ps k) (flat_map (λ qs. entry qs k) pss) (entry_open ps k first.0 on) (lists_open pss k first.1 on)
 
-    mutual
-      unfolding laid laid_branches laid_branch laid_whens laid_when
-
-      laid_stands : (c : TypedCode) (at : Place) (w : Around) (k : List PointName) → All (IsOpen W) w.leave → All (IsOpen W) k → In (laid s c at w k) → Standing (laid s c at w k)
-      laid_stands (typed.More a rest) at w k out on within =
+    laid_stands_cases : Laws (λ c. (at : Place) → (w : Around) → (k : List PointName) → All (IsOpen W) w.leave → All (IsOpen W) k → In (laid s c at w k) → Standing (laid s c at w k))
+        (λ c. (at : Place) → (w : Around) → (k : List PointName) → (otherwise : List PointName) → All (IsOpen W) w.leave → All (IsOpen W) k → All (IsOpen W) otherwise → In (laid_branches s c at w k otherwise) → Standing (laid_branches s c at w k otherwise))
+        (λ c. (at : Place) → (w : Around) → (k : List PointName) → (otherwise : List PointName) → All (IsOpen W) w.leave → All (IsOpen W) k → All (IsOpen W) otherwise → In (laid_branch s c at w k otherwise) → Standing (laid_branch s c at w k otherwise))
+        (λ c. (at : Place) → (w : Around) → (k : List PointName) → All (IsOpen W) w.leave → All (IsOpen W) k → In (flat_map (λ ps. ps) (laid_whens s c at w k)) → Standing (flat_map (λ ps. ps) (laid_whens s c at w k)))
+        (λ c. (at : Place) → (w : Around) → (k : List PointName) → All (IsOpen W) w.leave → All (IsOpen W) k → In (laid_when s c at w k) → Standing (laid_when s c at w k))
+    unfolding laid laid_branches laid_branch laid_whens laid_when
+    laid_stands_cases = record {
+      list = λ a rest by_a by_rest at w k out on within.
           let behind : List NamedPoint = laid s rest (1 ∷ at) (with_scope (declared a) w) k in
           let ps : List NamedPoint = laid s a (0 ∷ at) w (entry behind k) in
           both ps behind
-          (laid_stands a (0 ∷ at) w (entry behind k) out (entry_open behind k (laid_zero s rest (1 ∷ at) (with_scope (declared a) w) k) on) (in_left ps behind within))
-          (laid_stands rest (1 ∷ at) (with_scope (declared a) w) k out on (in_right ps behind within))
-      laid_stands (Declare p x v) at w k out on within = uses_stands at p v (instruction.Declare x v) w k refl refl on within
-      laid_stands (Assign p target e) at w k out on within =
+          (by_a (0 ∷ at) w (entry behind k) out (entry_open behind k (laid_zero s rest (1 ∷ at) (with_scope (declared a) w) k) on) (in_left ps behind within))
+          (by_rest (1 ∷ at) (with_scope (declared a) w) k out on (in_right ps behind within));
+      declare = λ p x v at w k out on within.
+          uses_stands at p v (instruction.Declare x v) w k refl refl on within;
+      assign = λ p target e at w k out on within.
           two_stand (1 ∷ at) (0 ∷ at) e target w.scope (with_held s e (1 ∷ at) w.scope) (row_at at 0)
-          (point (row_at at 0) p (instruction.Assign target e) (with_held s target (0 ∷ at) (with_held s e (1 ∷ at) w.scope)) k) refl refl refl refl on within
-      laid_stands (Skip p) at w k out on within = (goes refl refl (inl refl) on, tt)
-      laid_stands (typed.Call p sub actuals) at w k out on within = uses_stands at p actuals (instruction.Call sub actuals None) w k refl refl on within
-      laid_stands (Output p text line) at w k out on within = uses_stands at p text (instruction.Output text line) w k refl refl on within
-      laid_stands (Input p target) at w k out on within = uses_stands at p target (instruction.Input target) w k refl refl on within
-      laid_stands (Release p m) at w k out on within = uses_stands at p m (instruction.Release m) w k refl refl on within
-      laid_stands (If branches otherwise) at w k out on within =
+          (point (row_at at 0) p (instruction.Assign target e) (with_held s target (0 ∷ at) (with_held s e (1 ∷ at) w.scope)) k) refl refl refl refl on within;
+      skip = λ p at w k out on within.
+          (goes refl refl (inl refl) on, tt);
+      call = λ p sub actuals at w k out on within.
+          uses_stands at p actuals (instruction.Call sub actuals None) w k refl refl on within;
+      output = λ p text line at w k out on within.
+          uses_stands at p text (instruction.Output text line) w k refl refl on within;
+      input = λ p target at w k out on within.
+          uses_stands at p target (instruction.Input target) w k refl refl on within;
+      release = λ p m at w k out on within.
+          uses_stands at p m (instruction.Release m) w k refl refl on within;
+      choice = λ branches otherwise by_branches by_otherwise at w k out on within.
           let behind : List NamedPoint = laid s otherwise (1 ∷ at) w k in
           let ps : List NamedPoint = laid_branches s branches (0 ∷ at) w k (entry behind k) in
           both ps behind
-          (branches_stand branches (0 ∷ at) w k (entry behind k) out on (entry_open behind k (laid_zero s otherwise (1 ∷ at) w k) on) (in_left ps behind within))
-          (laid_stands otherwise (1 ∷ at) w k out on (in_right ps behind within))
-      laid_stands (Case p e whens) at w k out on within =
+          (by_branches (0 ∷ at) w k (entry behind k) out on (entry_open behind k (laid_zero s otherwise (1 ∷ at) w k) on) (in_left ps behind within))
+          (by_otherwise (1 ∷ at) w k out on (in_right ps behind within));
+      cases = λ p e whens by_whens at w k out on within.
           let lists : List (List NamedPoint) = laid_whens s whens (1 ∷ at) w k in
           let ps : List NamedPoint = uses s at p e (instruction.Choose e (choices_of whens)) w (flat_map (λ qs. entry qs k) lists) in
           both ps (flat_map (λ qs. qs) lists)
           (uses_stands at p e (instruction.Choose e (choices_of whens)) w (flat_map (λ qs. entry qs k) lists) refl refl (lists_open lists k (whens_zero s whens (1 ∷ at) w k) on)
           (in_left ps (flat_map (λ qs. qs) lists) within))
-          (whens_stand whens (1 ∷ at) w k out on (in_right ps (flat_map (λ qs. qs) lists) within))
-      laid_stands (Loop stmts) at w k out on within =
-          laid_stands stmts (0 ∷ at) (within_loop k w) (entry (laid s stmts (0 ∷ at) (within_loop k w) k) k) on
-          (entry_open (laid s stmts (0 ∷ at) (within_loop k w) k) k (laid_zero s stmts (0 ∷ at) (within_loop k w) k) on) within
-      laid_stands (While p e stmts) at w k out on within =
+          (by_whens (1 ∷ at) w k out on (in_right ps (flat_map (λ qs. qs) lists) within));
+      loop = λ stmts by_stmts at w k out on within.
+          by_stmts (0 ∷ at) (within_loop k w) (entry (laid s stmts (0 ∷ at) (within_loop k w) k) k) on
+          (entry_open (laid s stmts (0 ∷ at) (within_loop k w) k) k (laid_zero s stmts (0 ∷ at) (within_loop k w) k) on) within;
+      while = λ p e stmts by_stmts at w k out on within.
           let turn : List PointName = entry (prep s e (0 ∷ at) w.scope (row_at at 0 ∷ [])) (row_at at 0 ∷ []) in
           let inner : List NamedPoint = laid s stmts (1 ∷ at) (within_loop k w) turn in
           let ps : List NamedPoint = uses s at p e (instruction.Test e) w (entry inner turn ++ k) in
@@ -331,8 +341,8 @@ module _ (W : List NamedPoint) where
           both ps inner
           (uses_stands at p e (instruction.Test e) w (entry inner turn ++ k) refl refl
           (all_names (IsOpen W) (entry inner turn) k (entry_open inner turn (laid_zero s stmts (1 ∷ at) (within_loop k w) turn) again) on) (in_left ps inner within))
-          (laid_stands stmts (1 ∷ at) (within_loop k w) turn on again (in_right ps inner within))
-      laid_stands (For p x reversed low high stmts) at w k out on within =
+          (by_stmts (1 ∷ at) (within_loop k w) turn on again (in_right ps inner within));
+      for = λ p x reversed low high stmts by_stmts at w k out on within.
           let next : List PointName = row_at at 1 ∷ [] in
           let v : Around = with_scope (x ∷ []) (within_loop k w) in
           let inner : List NamedPoint = laid s stmts (2 ∷ at) v next in
@@ -346,9 +356,9 @@ module _ (W : List NamedPoint) where
           both ps (turn ∷ inner)
           (two_stand (0 ∷ at) (1 ∷ at) low high w.scope (with_held s low (0 ∷ at) w.scope) (row_at at 0) start refl refl refl refl again (in_left ps (turn ∷ inner) within)) (
             goes refl refl second (all_names (IsOpen W) (entry inner next) k (entry_open inner next (laid_zero s stmts (2 ∷ at) v next) again) on),
-            laid_stands stmts (2 ∷ at) v next on again (λ q has. in_right ps (turn ∷ inner) within q (inr has)),
-          )
-      laid_stands (Exit p e) at w k out on within =
+            by_stmts (2 ∷ at) v next on again (λ q has. in_right ps (turn ∷ inner) within q (inr has)),
+          );
+      exit = λ p e at w k out on within.
           let behind : List NamedPoint = ends at 1 p w.in_loop w.scope w.leave in
           let next : List PointName = entry behind w.leave ++ unless_empty e k in
           let before : List NamedPoint = prep s e (0 ∷ at) w.scope (row_at at 0 ∷ []) in
@@ -358,8 +368,8 @@ module _ (W : List NamedPoint) where
           both ps behind
           (uses_stands at p e (instruction.LeaveLoop e) w next refl refl
           (all_names (IsOpen W) (entry behind w.leave) (unless_empty e k) (names_open at free 1 p w.in_loop w.scope w.leave out) (unless_open (is_empty e) k on)) (in_left ps behind within))
-          (ends_stand at free 1 p w.in_loop w.scope w.leave out)
-      laid_stands (Return p v) at w k out on within =
+          (ends_stand at free 1 p w.in_loop w.scope w.leave out);
+      return = λ p v at w k out on within.
           let behind : List NamedPoint = closing at 1 p w in
           let before : List NamedPoint = prep s v (0 ∷ at) w.scope (row_at at 0 ∷ []) in
           let hold : NamedPoint = point (row_at at 0) p (instruction.Hold v) (with_held s v (0 ∷ at) w.scope) (entry behind []) in
@@ -370,47 +380,41 @@ module _ (W : List NamedPoint) where
           both ps behind
           (both before (hold ∷ []) (prep_stands v (0 ∷ at) w.scope (row_at at 0 ∷ []) (in_left before (hold ∷ []) (in_left ps behind within)) (one_name (IsOpen W) (row_at at 0) (inl refl)))
           (returns refl refl (closing_entry at after 1 (omega arith) p w.in_all w.scope w.formals finish (omega arith)), tt))
-          (closing_stands at after 1 (omega arith) p w.in_all w.scope w.formals finish (omega arith))
-      laid_stands (Block n stmts end) at w k out on within =
+          (closing_stands at after 1 (omega arith) p w.in_all w.scope w.formals finish (omega arith));
+      block = λ n stmts end by_stmts at w k out on within.
           let behind : List NamedPoint = ends at 0 end (ending s stmts) (reverse (declared stmts) ++ w.scope) k in
           let ps : List NamedPoint = laid s stmts (0 ∷ at) (within_block (ending s stmts) w) (entry behind k) in
           both ps behind
-          (laid_stands stmts (0 ∷ at) (within_block (ending s stmts) w) (entry behind k) out (entry_open behind k (ends_zero s at end (ending s stmts) (reverse (declared stmts) ++ w.scope) k) on) (in_left ps behind within))
-          (block_stands at end (ending s stmts) (reverse (declared stmts) ++ w.scope) k (in_right ps behind within) on)
-      laid_stands _ at w k out on within = tt
-
-      branches_stand : (c : TypedCode) (at : Place) (w : Around) (k otherwise : List PointName) → All (IsOpen W) w.leave → All (IsOpen W) k → All (IsOpen W) otherwise
-          → In (laid_branches s c at w k otherwise) → Standing (laid_branches s c at w k otherwise)
-      branches_stand (typed.More a rest) at w k otherwise out on other within =
+          (by_stmts (0 ∷ at) (within_block (ending s stmts) w) (entry behind k) out (entry_open behind k (ends_zero s at end (ending s stmts) (reverse (declared stmts) ++ w.scope) k) on) (in_left ps behind within))
+          (block_stands at end (ending s stmts) (reverse (declared stmts) ++ w.scope) k (in_right ps behind within) on);
+      others = λ c other at w k out on within. rw (laid_none s c at w k other) (tt);
+      branches = λ a rest by_a by_rest at w k otherwise out on other within.
           let behind : List NamedPoint = laid_branches s rest (1 ∷ at) w k otherwise in
           let ps : List NamedPoint = laid_branch s a (0 ∷ at) w k (entry behind otherwise) in
           both ps behind
-          (branch_stands a (0 ∷ at) w k (entry behind otherwise) out on (entry_open behind otherwise (branches_zero s rest (1 ∷ at) w k otherwise) other) (in_left ps behind within))
-          (branches_stand rest (1 ∷ at) w k otherwise out on other (in_right ps behind within))
-      branches_stand _ at w k otherwise out on other within = tt
-
-      branch_stands : (c : TypedCode) (at : Place) (w : Around) (k otherwise : List PointName) → All (IsOpen W) w.leave → All (IsOpen W) k → All (IsOpen W) otherwise
-          → In (laid_branch s c at w k otherwise) → Standing (laid_branch s c at w k otherwise)
-      branch_stands (Branch p e stmts) at w k otherwise out on other within =
+          (by_a (0 ∷ at) w k (entry behind otherwise) out on (entry_open behind otherwise (branches_zero s rest (1 ∷ at) w k otherwise) other) (in_left ps behind within))
+          (by_rest (1 ∷ at) w k otherwise out on other (in_right ps behind within));
+      no_branches = λ c apart at w k otherwise out on other within. rw (branches_none s c at w k otherwise apart) (tt);
+      branch = λ p e stmts by_stmts at w k otherwise out on other within.
           let inner : List NamedPoint = laid s stmts (1 ∷ at) w k in
           let ps : List NamedPoint = uses s at p e (instruction.Test e) w (entry inner k ++ otherwise) in
           both ps inner
           (uses_stands at p e (instruction.Test e) w (entry inner k ++ otherwise) refl refl
           (all_names (IsOpen W) (entry inner k) otherwise (entry_open inner k (laid_zero s stmts (1 ∷ at) w k) on) other) (in_left ps inner within))
-          (laid_stands stmts (1 ∷ at) w k out on (in_right ps inner within))
-      branch_stands _ at w k otherwise out on other within = tt
-
-      whens_stand : (c : TypedCode) (at : Place) (w : Around) (k : List PointName) → All (IsOpen W) w.leave → All (IsOpen W) k → In (flat_map (λ ps. ps) (laid_whens s c at w k))
-          → Standing (flat_map (λ ps. ps) (laid_whens s c at w k))
-      whens_stand (typed.More a rest) at w k out on within =
+          (by_stmts (1 ∷ at) w k out on (in_right ps inner within));
+      no_branch = λ c apart at w k otherwise out on other within. rw (branch_none s c at w k otherwise apart) (tt);
+      alternatives = λ a rest by_a by_rest at w k out on within.
           let ps : List NamedPoint = laid_when s a (0 ∷ at) w k in
           let behind : List NamedPoint = flat_map (λ qs. qs) (laid_whens s rest (1 ∷ at) w k) in
-          both ps behind (when_stands a (0 ∷ at) w k out on (in_left ps behind within)) (whens_stand rest (1 ∷ at) w k out on (in_right ps behind within))
-      whens_stand _ at w k out on within = tt
+          both ps behind (by_a (0 ∷ at) w k out on (in_left ps behind within)) (by_rest (1 ∷ at) w k out on (in_right ps behind within));
+      no_alternatives = λ c other at w k out on within. rw (whens_none s c at w k other) (tt);
+      alternative = λ choices stmts by_stmts at w k out on within.
+          by_stmts (1 ∷ at) w k out on within;
+      no_alternative = λ c other at w k out on within. rw (when_none s c at w k other) (tt);
+    }
 
-      when_stands : (c : TypedCode) (at : Place) (w : Around) (k : List PointName) → All (IsOpen W) w.leave → All (IsOpen W) k → In (laid_when s c at w k) → Standing (laid_when s c at w k)
-      when_stands (When choices stmts) at w k out on within = laid_stands stmts (1 ∷ at) w k out on within
-      when_stands _ at w k out on within = tt
+    laid_stands : (c : TypedCode) (at : Place) (w : Around) (k : List PointName) → All (IsOpen W) w.leave → All (IsOpen W) k → In (laid s c at w k) → Standing (laid s c at w k)
+    laid_stands = on_code laid_stands_cases
 
 -- ---- functions
 

@@ -18,6 +18,7 @@ use Rattle.machine.specs.flow_paths.Layout.{Around, within_loop, within_block, w
 use Rattle.machine.specs.flow_paths.Laid.{around_body, scope_at_end, procedure_end, function_end, body_points, sub_points, elaboration_points, declared_within}
 use Rattle.machine.specs.flow_paths.Scopes.{taken}
 use Rattle.flow_paths.proofs.Held.{held_count}
+use Rattle.settled_types.proofs.TypedCases.{Laws, branch_none, branches_none, laid_none, on_code, when_none, whens_none}
 use Rattle.settled_types.specs.OrderLaws.ScopeLaws.Code.{objects_of}
 use Rattle.settled_types.specs.OrderLaws.ScopeLaws.Supplied.{temporaries_in, Fills, IsSupplied, IsFilling, AreNone, StartsWithNone}
 use Rattle.settled_types.proofs.OrderLaws.ScopeLaws.Lists.{all_both, all_one, has_reverse}
@@ -273,42 +274,51 @@ module _ (test : ℕ → Bool) where
     swap : (a b : ℕ) → a + b ≡ b + a
     swap a b = omega arith
 
-    mutual
-      unfolding laid laid_branches laid_branch laid_whens laid_when declared_within
-
-      laid_supplied : (c : TypedCode) (at : Place) (w : Around) (k : List PointName) → IsAround w → AreNone test (declared_within c) → Filling (laid s c at w k) → Supplied (laid s c at w k)
-      laid_supplied (typed.More a rest) at w k around none =
+    laid_supplied_cases : Laws (λ c. (at : Place) → (w : Around) → (k : List PointName) → IsAround w → AreNone test (declared_within c) → Filling (laid s c at w k) → Supplied (laid s c at w k))
+        (λ c. (at : Place) → (w : Around) → (k : List PointName) → (otherwise : List PointName) → IsAround w → AreNone test (declared_within c) → Filling (laid_branches s c at w k otherwise) → Supplied (laid_branches s c at w k otherwise))
+        (λ c. (at : Place) → (w : Around) → (k : List PointName) → (otherwise : List PointName) → IsAround w → AreNone test (declared_within c) → Filling (laid_branch s c at w k otherwise) → Supplied (laid_branch s c at w k otherwise))
+        (λ c. (at : Place) → (w : Around) → (k : List PointName) → IsAround w → AreNone test (declared_within c) → Filling (flat_map (λ ps. ps) (laid_whens s c at w k)) → Supplied (flat_map (λ ps. ps) (laid_whens s c at w k)))
+        (λ c. (at : Place) → (w : Around) → (k : List PointName) → IsAround w → AreNone test (declared_within c) → Filling (laid_when s c at w k) → Supplied (laid_when s c at w k))
+    unfolding laid laid_branches laid_branch laid_whens laid_when declared_within
+    laid_supplied_cases = record {
+      list = λ a rest by_a by_rest at w k around none.
           let first = none_left (declared_within a) (declared_within rest) none in
           let behind : List NamedPoint = laid s rest (1 ∷ at) (with_scope (declared a) w) k in
-          joined (laid s a (0 ∷ at) w (entry behind k)) behind (laid_supplied a (0 ∷ at) w (entry behind k) around first)
-          (laid_supplied rest (1 ∷ at) (with_scope (declared a) w) k (in_scopes (declared a) w (declared_none a first) around)
-          (none_right (declared_within a) (declared_within rest) none))
-      laid_supplied (Declare p x v) at w k around none = uses_supplied at p v (instruction.Declare x v) w k refl (none x (inl refl))
-      laid_supplied (Assign p target e) at w k around none =
+          joined (laid s a (0 ∷ at) w (entry behind k)) behind (by_a (0 ∷ at) w (entry behind k) around first)
+          (by_rest (1 ∷ at) (with_scope (declared a) w) k (in_scopes (declared a) w (declared_none a first) around)
+          (none_right (declared_within a) (declared_within rest) none));
+      declare = λ p x v at w k around none.
+          uses_supplied at p v (instruction.Declare x v) w k refl (none x (inl refl));
+      assign = λ p target e at w k around none.
           two_supplied (1 ∷ at) (0 ∷ at) e target w.scope _ (row_at at 0 ∷ [])
-          (point (row_at at 0) p (instruction.Assign target e) (with_held s target (0 ∷ at) (with_held s e (1 ∷ at) w.scope)) k) refl refl tt
-      laid_supplied (Skip p) at w k around none = λ fill. ((refl, tt), tt)
-      laid_supplied (typed.Call p sub actuals) at w k around none = uses_supplied at p actuals (instruction.Call sub actuals None) w k refl tt
-      laid_supplied (Output p text line) at w k around none = uses_supplied at p text (instruction.Output text line) w k refl tt
-      laid_supplied (Input p target) at w k around none = uses_supplied at p target (instruction.Input target) w k refl tt
-      laid_supplied (Release p m) at w k around none = uses_supplied at p m (instruction.Release m) w k refl tt
-      laid_supplied (If branches otherwise) at w k around none =
+          (point (row_at at 0) p (instruction.Assign target e) (with_held s target (0 ∷ at) (with_held s e (1 ∷ at) w.scope)) k) refl refl tt;
+      skip = λ p at w k around none.
+          λ fill. ((refl, tt), tt);
+      call = λ p sub actuals at w k around none.
+          uses_supplied at p actuals (instruction.Call sub actuals None) w k refl tt;
+      output = λ p text line at w k around none.
+          uses_supplied at p text (instruction.Output text line) w k refl tt;
+      input = λ p target at w k around none.
+          uses_supplied at p target (instruction.Input target) w k refl tt;
+      release = λ p m at w k around none.
+          uses_supplied at p m (instruction.Release m) w k refl tt;
+      choice = λ branches otherwise by_branches by_otherwise at w k around none.
           let behind : List NamedPoint = laid s otherwise (1 ∷ at) w k in
           joined (laid_branches s branches (0 ∷ at) w k (entry behind k)) behind
-          (branches_supplied branches (0 ∷ at) w k (entry behind k) around (none_left (declared_within branches) (declared_within otherwise) none))
-          (laid_supplied otherwise (1 ∷ at) w k around (none_right (declared_within branches) (declared_within otherwise) none))
-      laid_supplied (Case p e whens) at w k around none =
+          (by_branches (0 ∷ at) w k (entry behind k) around (none_left (declared_within branches) (declared_within otherwise) none))
+          (by_otherwise (1 ∷ at) w k around (none_right (declared_within branches) (declared_within otherwise) none));
+      cases = λ p e whens by_whens at w k around none.
           let behind : List (List NamedPoint) = laid_whens s whens (1 ∷ at) w k in
           joined (uses s at p e (instruction.Choose e (choices_of whens)) w (flat_map (λ ps. entry ps k) behind)) (flat_map (λ ps. ps) behind)
-          (uses_supplied at p e (instruction.Choose e (choices_of whens)) w (flat_map (λ ps. entry ps k) behind) refl tt) (whens_supplied whens (1 ∷ at) w k around none)
-      laid_supplied (Loop stmts) at w k around none =
-          laid_supplied stmts (0 ∷ at) (within_loop k w) (entry (laid s stmts (0 ∷ at) (within_loop k w) k) k) (in_loops k w around) none
-      laid_supplied (While p e stmts) at w k around none =
+          (uses_supplied at p e (instruction.Choose e (choices_of whens)) w (flat_map (λ ps. entry ps k) behind) refl tt) (by_whens (1 ∷ at) w k around none);
+      loop = λ stmts by_stmts at w k around none.
+          by_stmts (0 ∷ at) (within_loop k w) (entry (laid s stmts (0 ∷ at) (within_loop k w) k) k) (in_loops k w around) none;
+      while = λ p e stmts by_stmts at w k around none.
           let turn : List PointName = entry (prep s e (0 ∷ at) w.scope (row_at at 0 ∷ [])) (row_at at 0 ∷ []) in
           let inner : List NamedPoint = laid s stmts (1 ∷ at) (within_loop k w) turn in
           joined (uses s at p e (instruction.Test e) w (entry inner turn ++ k)) inner (uses_supplied at p e (instruction.Test e) w (entry inner turn ++ k) refl tt)
-          (laid_supplied stmts (1 ∷ at) (within_loop k w) turn (in_loops k w around) none)
-      laid_supplied (For p x reversed low high stmts) at w k around none =
+          (by_stmts (1 ∷ at) (within_loop k w) turn (in_loops k w around) none);
+      for = λ p x reversed low high stmts by_stmts at w k around none.
           let next : List PointName = row_at at 1 ∷ [] in
           let new : AreNone test (x ∷ []) = λ y has. elim has [ inl same ↦ none y (inl same) | inr never ↦ absurd never ] in
           joined _ _
@@ -316,54 +326,47 @@ module _ (test : ℕ → Bool) where
           (point (row_at at 0) p (instruction.Start x reversed low high) (with_held s high (1 ∷ at) (with_held s low (0 ∷ at) w.scope)) next) refl refl (none x (inl refl)))
           (λ fill. (
             (refl, tt),
-            laid_supplied stmts (2 ∷ at) (with_scope (x ∷ []) (within_loop k w)) next (in_scopes (x ∷ []) (within_loop k w) new (in_loops k w around)) (λ y has. none y (inr has)) fill.1,
-          ))
-      laid_supplied (Exit p e) at w k around none =
+            by_stmts (2 ∷ at) (with_scope (x ∷ []) (within_loop k w)) next (in_scopes (x ∷ []) (within_loop k w) new (in_loops k w around)) (λ y has. none y (inr has)) fill.1,
+          ));
+      exit = λ p e at w k around none.
           let out : List NamedPoint = ends at 1 p w.in_loop w.scope w.leave in
           joined (uses s at p e (instruction.LeaveLoop e) w (entry out w.leave ++ unless_empty e k)) out
-          (uses_supplied at p e (instruction.LeaveLoop e) w (entry out w.leave ++ unless_empty e k) refl tt) (λ fill. ends_supplied at 1 p w.in_loop w.scope w.leave around.in_loop)
-      laid_supplied (Return p v) at w k around none =
+          (uses_supplied at p e (instruction.LeaveLoop e) w (entry out w.leave ++ unless_empty e k) refl tt) (λ fill. ends_supplied at 1 p w.in_loop w.scope w.leave around.in_loop);
+      return = λ p v at w k around none.
           let finish : PointName = row_at at (suc (length w.in_all)) in
           joined (uses s at p v (instruction.Hold v) w (entry (closing at 1 p w) [])) (closing at 1 p w)
           (uses_supplied at p v (instruction.Hold v) w (entry (closing at 1 p w) []) refl (count_none w.scope around.scope))
           (λ fill.
-          one_more (ends at 1 p w.in_all w.scope (finish ∷ [])) (point finish p Finish w.formals []) (ends_supplied at 1 p w.in_all w.scope (finish ∷ []) around.in_all) (refl, tt))
-      laid_supplied (Block n stmts end) at w k around none =
+          one_more (ends at 1 p w.in_all w.scope (finish ∷ [])) (point finish p Finish w.formals []) (ends_supplied at 1 p w.in_all w.scope (finish ∷ []) around.in_all) (refl, tt));
+      block = λ n stmts end by_stmts at w k around none.
           let out : List NamedPoint = ends at 0 end (ending s stmts) (reverse (declared stmts) ++ w.scope) k in
           joined (laid s stmts (0 ∷ at) (within_block (ending s stmts) w) (entry out k)) out
-          (laid_supplied stmts (0 ∷ at) (within_block (ending s stmts) w) (entry out k) (in_blocks (ending s stmts) w (ending_none stmts none) around) none)
-          (λ fill. ends_supplied at 0 end (ending s stmts) (reverse (declared stmts) ++ w.scope) k (ending_none stmts none))
-      laid_supplied _ at w k around none = λ fill. tt
-
-      branches_supplied : (c : TypedCode) (at : Place) (w : Around) (k otherwise : List PointName) → IsAround w → AreNone test (declared_within c)
-          → Filling (laid_branches s c at w k otherwise) → Supplied (laid_branches s c at w k otherwise)
-      branches_supplied (typed.More a rest) at w k otherwise around none =
+          (by_stmts (0 ∷ at) (within_block (ending s stmts) w) (entry out k) (in_blocks (ending s stmts) w (ending_none stmts none) around) none)
+          (λ fill. ends_supplied at 0 end (ending s stmts) (reverse (declared stmts) ++ w.scope) k (ending_none stmts none));
+      others = λ c other at w k around none. rw (laid_none s c at w k other) (λ fill. tt);
+      branches = λ a rest by_a by_rest at w k otherwise around none.
           let behind : List NamedPoint = laid_branches s rest (1 ∷ at) w k otherwise in
           joined (laid_branch s a (0 ∷ at) w k (entry behind otherwise)) behind
-          (branch_supplied a (0 ∷ at) w k (entry behind otherwise) around (none_left (declared_within a) (declared_within rest) none))
-          (branches_supplied rest (1 ∷ at) w k otherwise around (none_right (declared_within a) (declared_within rest) none))
-      branches_supplied _ at w k otherwise around none = λ fill. tt
-
-      branch_supplied : (c : TypedCode) (at : Place) (w : Around) (k otherwise : List PointName) → IsAround w → AreNone test (declared_within c)
-          → Filling (laid_branch s c at w k otherwise) → Supplied (laid_branch s c at w k otherwise)
-      branch_supplied (Branch p e stmts) at w k otherwise around none =
+          (by_a (0 ∷ at) w k (entry behind otherwise) around (none_left (declared_within a) (declared_within rest) none))
+          (by_rest (1 ∷ at) w k otherwise around (none_right (declared_within a) (declared_within rest) none));
+      no_branches = λ c other at w k otherwise around none. rw (branches_none s c at w k otherwise other) (λ fill. tt);
+      branch = λ p e stmts by_stmts at w k otherwise around none.
           let inner : List NamedPoint = laid s stmts (1 ∷ at) w k in
           joined (uses s at p e (instruction.Test e) w (entry inner k ++ otherwise)) inner
-          (uses_supplied at p e (instruction.Test e) w (entry inner k ++ otherwise) refl tt) (laid_supplied stmts (1 ∷ at) w k around none)
-      branch_supplied _ at w k otherwise around none = λ fill. tt
-
-      whens_supplied : (c : TypedCode) (at : Place) (w : Around) (k : List PointName) → IsAround w → AreNone test (declared_within c)
-          → Filling (flat_map (λ ps. ps) (laid_whens s c at w k)) → Supplied (flat_map (λ ps. ps) (laid_whens s c at w k))
-      whens_supplied (typed.More a rest) at w k around none =
+          (uses_supplied at p e (instruction.Test e) w (entry inner k ++ otherwise) refl tt) (by_stmts (1 ∷ at) w k around none);
+      no_branch = λ c other at w k otherwise around none. rw (branch_none s c at w k otherwise other) (λ fill. tt);
+      alternatives = λ a rest by_a by_rest at w k around none.
           joined (laid_when s a (0 ∷ at) w k) (flat_map (λ ps. ps) (laid_whens s rest (1 ∷ at) w k))
-          (when_supplied a (0 ∷ at) w k around (none_left (declared_within a) (declared_within rest) none))
-          (whens_supplied rest (1 ∷ at) w k around (none_right (declared_within a) (declared_within rest) none))
-      whens_supplied _ at w k around none = λ fill. tt
+          (by_a (0 ∷ at) w k around (none_left (declared_within a) (declared_within rest) none))
+          (by_rest (1 ∷ at) w k around (none_right (declared_within a) (declared_within rest) none));
+      no_alternatives = λ c other at w k around none. rw (whens_none s c at w k other) (λ fill. tt);
+      alternative = λ choices stmts by_stmts at w k around none.
+          by_stmts (1 ∷ at) w k around none;
+      no_alternative = λ c other at w k around none. rw (when_none s c at w k other) (λ fill. tt);
+    }
 
-      when_supplied : (c : TypedCode) (at : Place) (w : Around) (k : List PointName) → IsAround w → AreNone test (declared_within c) → Filling (laid_when s c at w k)
-          → Supplied (laid_when s c at w k)
-      when_supplied (When choices stmts) at w k around none = laid_supplied stmts (1 ∷ at) w k around none
-      when_supplied _ at w k around none = λ fill. tt
+    laid_supplied : (c : TypedCode) (at : Place) (w : Around) (k : List PointName) → IsAround w → AreNone test (declared_within c) → Filling (laid s c at w k) → Supplied (laid s c at w k)
+    laid_supplied = on_code laid_supplied_cases
 
     -- ---- the first point
 
@@ -504,87 +507,93 @@ module _ (test : ℕ → Bool) where
     ends_start at row p [] scope k none = tt
     ends_start at row p (x ∷ xs) scope k none = count_none (from x scope) (from_none x scope none)
 
-    mutual
-      unfolding laid laid_branches laid_branch laid_whens laid_when declared_within
-
-      laid_starts : (c : TypedCode) (at : Place) (w : Around) (k : List PointName) → IsAround w → AreNone test (declared_within c) → Starts (laid s c at w k)
-      laid_starts (typed.More a rest) at w k around none =
+    laid_starts_cases : Laws (λ c. (at : Place) → (w : Around) → (k : List PointName) → IsAround w → AreNone test (declared_within c) → Starts (laid s c at w k))
+        (λ c. (at : Place) → (w : Around) → (k : List PointName) → (otherwise : List PointName) → IsAround w → AreNone test (declared_within c) → Starts (laid_branches s c at w k otherwise))
+        (λ c. (at : Place) → (w : Around) → (k : List PointName) → (otherwise : List PointName) → IsAround w → AreNone test (declared_within c) → Starts (laid_branch s c at w k otherwise))
+        (λ c. (at : Place) → (w : Around) → (k : List PointName) → IsAround w → AreNone test (declared_within c) → Starts (flat_map (λ ps. ps) (laid_whens s c at w k)))
+        (λ c. (at : Place) → (w : Around) → (k : List PointName) → IsAround w → AreNone test (declared_within c) → Starts (laid_when s c at w k))
+    unfolding laid laid_branches laid_branch laid_whens laid_when declared_within
+    laid_starts_cases = record {
+      list = λ a rest by_a by_rest at w k around none.
           let first = none_left (declared_within a) (declared_within rest) none in
           let behind : List NamedPoint = laid s rest (1 ∷ at) (with_scope (declared a) w) k in
-          starts_then (laid s a (0 ∷ at) w (entry behind k)) behind (laid_starts a (0 ∷ at) w (entry behind k) around first)
-          (laid_starts rest (1 ∷ at) (with_scope (declared a) w) k (in_scopes (declared a) w (declared_none a first) around) (none_right (declared_within a) (declared_within rest) none))
-      laid_starts (Declare p x v) at w k around none = uses_starts at p v (instruction.Declare x v) w k around.scope
-      laid_starts (Assign p target e) at w k around none =
+          starts_then (laid s a (0 ∷ at) w (entry behind k)) behind (by_a (0 ∷ at) w (entry behind k) around first)
+          (by_rest (1 ∷ at) (with_scope (declared a) w) k (in_scopes (declared a) w (declared_none a first) around) (none_right (declared_within a) (declared_within rest) none));
+      declare = λ p x v at w k around none.
+          uses_starts at p v (instruction.Declare x v) w k around.scope;
+      assign = λ p target e at w k around none.
           two_starts (1 ∷ at) (0 ∷ at) e target w.scope _ (row_at at 0 ∷ [])
-          (point (row_at at 0) p (instruction.Assign target e) (with_held s target (0 ∷ at) (with_held s e (1 ∷ at) w.scope)) k) refl around.scope
-      laid_starts (Skip p) at w k around none = count_none w.scope around.scope
-      laid_starts (typed.Call p sub actuals) at w k around none = uses_starts at p actuals (instruction.Call sub actuals None) w k around.scope
-      laid_starts (Output p text line) at w k around none = uses_starts at p text (instruction.Output text line) w k around.scope
-      laid_starts (Input p target) at w k around none = uses_starts at p target (instruction.Input target) w k around.scope
-      laid_starts (Release p m) at w k around none = uses_starts at p m (instruction.Release m) w k around.scope
-      laid_starts (If branches otherwise) at w k around none =
+          (point (row_at at 0) p (instruction.Assign target e) (with_held s target (0 ∷ at) (with_held s e (1 ∷ at) w.scope)) k) refl around.scope;
+      skip = λ p at w k around none.
+          count_none w.scope around.scope;
+      call = λ p sub actuals at w k around none.
+          uses_starts at p actuals (instruction.Call sub actuals None) w k around.scope;
+      output = λ p text line at w k around none.
+          uses_starts at p text (instruction.Output text line) w k around.scope;
+      input = λ p target at w k around none.
+          uses_starts at p target (instruction.Input target) w k around.scope;
+      release = λ p m at w k around none.
+          uses_starts at p m (instruction.Release m) w k around.scope;
+      choice = λ branches otherwise by_branches by_otherwise at w k around none.
           let behind : List NamedPoint = laid s otherwise (1 ∷ at) w k in
           starts_then (laid_branches s branches (0 ∷ at) w k (entry behind k)) behind
-          (branches_start branches (0 ∷ at) w k (entry behind k) around (none_left (declared_within branches) (declared_within otherwise) none))
-          (laid_starts otherwise (1 ∷ at) w k around (none_right (declared_within branches) (declared_within otherwise) none))
-      laid_starts (Case p e whens) at w k around none =
+          (by_branches (0 ∷ at) w k (entry behind k) around (none_left (declared_within branches) (declared_within otherwise) none))
+          (by_otherwise (1 ∷ at) w k around (none_right (declared_within branches) (declared_within otherwise) none));
+      cases = λ p e whens by_whens at w k around none.
           let behind : List (List NamedPoint) = laid_whens s whens (1 ∷ at) w k in
           starts_then (uses s at p e (instruction.Choose e (choices_of whens)) w (flat_map (λ ps. entry ps k) behind)) (flat_map (λ ps. ps) behind)
-          (uses_starts at p e (instruction.Choose e (choices_of whens)) w (flat_map (λ ps. entry ps k) behind) around.scope) (whens_start whens (1 ∷ at) w k around none)
-      laid_starts (Loop stmts) at w k around none =
-          laid_starts stmts (0 ∷ at) (within_loop k w) (entry (laid s stmts (0 ∷ at) (within_loop k w) k) k) (in_loops k w around) none
-      laid_starts (While p e stmts) at w k around none =
+          (uses_starts at p e (instruction.Choose e (choices_of whens)) w (flat_map (λ ps. entry ps k) behind) around.scope) (by_whens (1 ∷ at) w k around none);
+      loop = λ stmts by_stmts at w k around none.
+          by_stmts (0 ∷ at) (within_loop k w) (entry (laid s stmts (0 ∷ at) (within_loop k w) k) k) (in_loops k w around) none;
+      while = λ p e stmts by_stmts at w k around none.
           let turn : List PointName = entry (prep s e (0 ∷ at) w.scope (row_at at 0 ∷ [])) (row_at at 0 ∷ []) in
           let inner : List NamedPoint = laid s stmts (1 ∷ at) (within_loop k w) turn in
           starts_then (uses s at p e (instruction.Test e) w (entry inner turn ++ k)) inner (uses_starts at p e (instruction.Test e) w (entry inner turn ++ k) around.scope)
-          (laid_starts stmts (1 ∷ at) (within_loop k w) turn (in_loops k w around) none)
-      laid_starts (For p x reversed low high stmts) at w k around none =
+          (by_stmts (1 ∷ at) (within_loop k w) turn (in_loops k w around) none);
+      for = λ p x reversed low high stmts _ at w k around none.
           let next : List PointName = row_at at 1 ∷ [] in
           starts_then _ _
           (two_starts (0 ∷ at) (1 ∷ at) low high w.scope _ (row_at at 0 ∷ [])
           (point (row_at at 0) p (instruction.Start x reversed low high) (with_held s high (1 ∷ at) (with_held s low (0 ∷ at) w.scope)) next) refl around.scope)
-          (count_none (x ∷ w.scope) (none_both (x ∷ []) w.scope (λ y has. elim has [ inl same ↦ none y (inl same) | inr never ↦ absurd never ]) around.scope))
-      laid_starts (Exit p e) at w k around none =
+          (count_none (x ∷ w.scope) (none_both (x ∷ []) w.scope (λ y has. elim has [ inl same ↦ none y (inl same) | inr never ↦ absurd never ]) around.scope));
+      exit = λ p e at w k around none.
           let out : List NamedPoint = ends at 1 p w.in_loop w.scope w.leave in
           starts_then (uses s at p e (instruction.LeaveLoop e) w (entry out w.leave ++ unless_empty e k)) out
-          (uses_starts at p e (instruction.LeaveLoop e) w (entry out w.leave ++ unless_empty e k) around.scope) (ends_start at 1 p w.in_loop w.scope w.leave around.scope)
-      laid_starts (Return p v) at w k around none =
+          (uses_starts at p e (instruction.LeaveLoop e) w (entry out w.leave ++ unless_empty e k) around.scope) (ends_start at 1 p w.in_loop w.scope w.leave around.scope);
+      return = λ p v at w k around none.
           starts_both (uses s at p v (instruction.Hold v) w (entry (closing at 1 p w) [])) (closing at 1 p w)
           (uses_starts at p v (instruction.Hold v) w (entry (closing at 1 p w) []) around.scope)
-          (λ e. absurd (no_row (prep s v (0 ∷ at) w.scope (row_at at 0 ∷ [])) _ [] e))
-      laid_starts (Block n stmts end) at w k around none =
+          (λ e. absurd (no_row (prep s v (0 ∷ at) w.scope (row_at at 0 ∷ [])) _ [] e));
+      block = λ n stmts end by_stmts at w k around none.
           let out : List NamedPoint = ends at 0 end (ending s stmts) (reverse (declared stmts) ++ w.scope) k in
           starts_then (laid s stmts (0 ∷ at) (within_block (ending s stmts) w) (entry out k)) out
-          (laid_starts stmts (0 ∷ at) (within_block (ending s stmts) w) (entry out k) (in_blocks (ending s stmts) w (ending_none stmts none) around) none)
+          (by_stmts (0 ∷ at) (within_block (ending s stmts) w) (entry out k) (in_blocks (ending s stmts) w (ending_none stmts none) around) none)
           (ends_start at 0 end (ending s stmts) (reverse (declared stmts) ++ w.scope) k
-          (none_both (reverse (declared stmts)) w.scope (none_reverse (declared stmts) (declared_none stmts none)) around.scope))
-      laid_starts _ at w k around none = tt
-
-      branches_start : (c : TypedCode) (at : Place) (w : Around) (k otherwise : List PointName) → IsAround w → AreNone test (declared_within c) → Starts (laid_branches s c at w k otherwise)
-      branches_start (typed.More a rest) at w k otherwise around none =
+          (none_both (reverse (declared stmts)) w.scope (none_reverse (declared stmts) (declared_none stmts none)) around.scope));
+      others = λ c other at w k around none. rw (laid_none s c at w k other) (tt);
+      branches = λ a rest by_a by_rest at w k otherwise around none.
           let behind : List NamedPoint = laid_branches s rest (1 ∷ at) w k otherwise in
           starts_then (laid_branch s a (0 ∷ at) w k (entry behind otherwise)) behind
-          (branch_starts a (0 ∷ at) w k (entry behind otherwise) around (none_left (declared_within a) (declared_within rest) none))
-          (branches_start rest (1 ∷ at) w k otherwise around (none_right (declared_within a) (declared_within rest) none))
-      branches_start _ at w k otherwise around none = tt
-
-      branch_starts : (c : TypedCode) (at : Place) (w : Around) (k otherwise : List PointName) → IsAround w → AreNone test (declared_within c) → Starts (laid_branch s c at w k otherwise)
-      branch_starts (Branch p e stmts) at w k otherwise around none =
+          (by_a (0 ∷ at) w k (entry behind otherwise) around (none_left (declared_within a) (declared_within rest) none))
+          (by_rest (1 ∷ at) w k otherwise around (none_right (declared_within a) (declared_within rest) none));
+      no_branches = λ c other at w k otherwise around none. rw (branches_none s c at w k otherwise other) (tt);
+      branch = λ p e stmts by_stmts at w k otherwise around none.
           let inner : List NamedPoint = laid s stmts (1 ∷ at) w k in
           starts_then (uses s at p e (instruction.Test e) w (entry inner k ++ otherwise)) inner
-          (uses_starts at p e (instruction.Test e) w (entry inner k ++ otherwise) around.scope) (laid_starts stmts (1 ∷ at) w k around none)
-      branch_starts _ at w k otherwise around none = tt
-
-      whens_start : (c : TypedCode) (at : Place) (w : Around) (k : List PointName) → IsAround w → AreNone test (declared_within c) → Starts (flat_map (λ ps. ps) (laid_whens s c at w k))
-      whens_start (typed.More a rest) at w k around none =
+          (uses_starts at p e (instruction.Test e) w (entry inner k ++ otherwise) around.scope) (by_stmts (1 ∷ at) w k around none);
+      no_branch = λ c other at w k otherwise around none. rw (branch_none s c at w k otherwise other) (tt);
+      alternatives = λ a rest by_a by_rest at w k around none.
           starts_then (laid_when s a (0 ∷ at) w k) (flat_map (λ ps. ps) (laid_whens s rest (1 ∷ at) w k))
-          (when_starts a (0 ∷ at) w k around (none_left (declared_within a) (declared_within rest) none))
-          (whens_start rest (1 ∷ at) w k around (none_right (declared_within a) (declared_within rest) none))
-      whens_start _ at w k around none = tt
+          (by_a (0 ∷ at) w k around (none_left (declared_within a) (declared_within rest) none))
+          (by_rest (1 ∷ at) w k around (none_right (declared_within a) (declared_within rest) none));
+      no_alternatives = λ c other at w k around none. rw (whens_none s c at w k other) (tt);
+      alternative = λ choices stmts by_stmts at w k around none.
+          by_stmts (1 ∷ at) w k around none;
+      no_alternative = λ c other at w k around none. rw (when_none s c at w k other) (tt);
+    }
 
-      when_starts : (c : TypedCode) (at : Place) (w : Around) (k : List PointName) → IsAround w → AreNone test (declared_within c) → Starts (laid_when s c at w k)
-      when_starts (When choices stmts) at w k around none = laid_starts stmts (1 ∷ at) w k around none
-      when_starts _ at w k around none = tt
+    laid_starts : (c : TypedCode) (at : Place) (w : Around) (k : List PointName) → IsAround w → AreNone test (declared_within c) → Starts (laid s c at w k)
+    laid_starts = on_code laid_starts_cases
 
     -- ---- subprograms
 

@@ -16,6 +16,7 @@ use Rattle.machine.specs.flow_paths.Points.{Place, PointName, row_at, NamedPoint
 use Rattle.machine.specs.flow_paths.Prep.{Setting, with_held, prep}
 use Rattle.machine.specs.flow_paths.Layout.{Around, within_loop, within_block, with_scope, declared, ending, ends, uses, uses_both, laid, laid_branches, laid_branch, laid_whens, laid_when}
 use Rattle.machine.specs.flow_paths.Laid.{declared_within, around_body, scope_at_end, function_end, procedure_end, sub_points}
+use Rattle.settled_types.proofs.TypedCases.{Laws, branch_none, branches_none, laid_none, on_code, when_none, whens_none}
 use Rattle.settled_types.specs.OrderLaws.ScopeLaws.Code.{Once}
 use Rattle.settled_types.proofs.OrderLaws.ScopeLaws.Lists.{all_both, all_one, all_if, all_has, once_left, once_right, once_apart}
 
@@ -140,61 +141,69 @@ module _ (s : Setting) (P : ℕ → TypedTree → Type 0) where
   abbrev AllOf : TypedCode → Type 0
   AllOf c = (x : ℕ) (v : TypedTree) → IsDeclared x v c → P x v
 
-  mutual
-    unfolding laid laid_branches laid_branch laid_whens laid_when IsDeclared
-
-    laid_good : (c : TypedCode) (at : Place) (w : Around) (k : List PointName) → AllOf c → Good (laid s c at w k)
-    laid_good (typed.More a rest) at w k all =
-        both (laid s a (0 ∷ at) w _) _ (laid_good a (0 ∷ at) w _ (λ x v is. all x v (inl is))) (laid_good rest (1 ∷ at) (with_scope (declared a) w) k (λ x v is. all x v (inr is)))
-    laid_good (Declare p x v) at w k all = uses_good at p v (instruction.Declare x v) w k (all x v (refl, refl))
-    laid_good (Assign p target e) at w k all =
+  laid_good_cases : Laws (λ c. (at : Place) → (w : Around) → (k : List PointName) → AllOf c → Good (laid s c at w k))
+      (λ c. (at : Place) → (w : Around) → (k : List PointName) → (m : List PointName) → AllOf c → Good (laid_branches s c at w k m))
+      (λ c. (at : Place) → (w : Around) → (k : List PointName) → (m : List PointName) → AllOf c → Good (laid_branch s c at w k m))
+      (λ c. (at : Place) → (w : Around) → (k : List PointName) → AllOf c → Good (flat_map (λ ps. ps) (laid_whens s c at w k)))
+      (λ c. (at : Place) → (w : Around) → (k : List PointName) → AllOf c → Good (laid_when s c at w k))
+  unfolding laid laid_branches laid_branch laid_whens laid_when IsDeclared
+  laid_good_cases = record {
+    list = λ a rest by_a by_rest at w k all.
+        both (laid s a (0 ∷ at) w _) _ (by_a (0 ∷ at) w _ (λ x v is. all x v (inl is))) (by_rest (1 ∷ at) (with_scope (declared a) w) k (λ x v is. all x v (inr is)));
+    declare = λ p x v at w k all.
+        uses_good at p v (instruction.Declare x v) w k (all x v (refl, refl));
+    assign = λ p target e at w k all.
         one_more (prep s e (1 ∷ at) w.scope _ ++ prep s target (0 ∷ at) (with_held s e (1 ∷ at) w.scope) _) _
-        (both (prep s e (1 ∷ at) w.scope _) _ (prep_good e (1 ∷ at) w.scope _) (prep_good target (0 ∷ at) (with_held s e (1 ∷ at) w.scope) _)) tt
-    laid_good (Skip p) at w k all = (tt, tt)
-    laid_good (typed.Call p sub actuals) at w k all = uses_good at p actuals (instruction.Call sub actuals None) w k tt
-    laid_good (Output p text line) at w k all = uses_good at p text (instruction.Output text line) w k tt
-    laid_good (Input p target) at w k all = uses_good at p target (instruction.Input target) w k tt
-    laid_good (Release p m) at w k all = uses_good at p m (instruction.Release m) w k tt
-    laid_good (If branches otherwise) at w k all =
-        both (laid_branches s branches (0 ∷ at) w k _) _ (branches_good branches (0 ∷ at) w k _ (λ x v is. all x v (inl is)))
-        (laid_good otherwise (1 ∷ at) w k (λ x v is. all x v (inr is)))
-    laid_good (Case p e whens) at w k all = both (uses s at p e _ w _) _ (uses_good at p e _ w _ tt) (whens_good whens (1 ∷ at) w k all)
-    laid_good (Loop stmts) at w k all = laid_good stmts (0 ∷ at) (within_loop k w) _ all
-    laid_good (While p e stmts) at w k all =
-        both (uses s at p e (instruction.Test e) w _) _ (uses_good at p e (instruction.Test e) w _ tt) (laid_good stmts (1 ∷ at) (within_loop k w) _ all)
-    laid_good (For p x reversed low high stmts) at w k all =
+        (both (prep s e (1 ∷ at) w.scope _) _ (prep_good e (1 ∷ at) w.scope _) (prep_good target (0 ∷ at) (with_held s e (1 ∷ at) w.scope) _)) tt;
+    skip = λ p at w k all.
+        (tt, tt);
+    call = λ p sub actuals at w k all.
+        uses_good at p actuals (instruction.Call sub actuals None) w k tt;
+    output = λ p text line at w k all.
+        uses_good at p text (instruction.Output text line) w k tt;
+    input = λ p target at w k all.
+        uses_good at p target (instruction.Input target) w k tt;
+    release = λ p m at w k all.
+        uses_good at p m (instruction.Release m) w k tt;
+    choice = λ branches otherwise by_branches by_otherwise at w k all.
+        both (laid_branches s branches (0 ∷ at) w k _) _ (by_branches (0 ∷ at) w k _ (λ x v is. all x v (inl is)))
+        (by_otherwise (1 ∷ at) w k (λ x v is. all x v (inr is)));
+    cases = λ p e whens by_whens at w k all.
+        both (uses s at p e _ w _) _ (uses_good at p e _ w _ tt) (by_whens (1 ∷ at) w k all);
+    loop = λ stmts by_stmts at w k all.
+        by_stmts (0 ∷ at) (within_loop k w) _ all;
+    while = λ p e stmts by_stmts at w k all.
+        both (uses s at p e (instruction.Test e) w _) _ (uses_good at p e (instruction.Test e) w _ tt) (by_stmts (1 ∷ at) (within_loop k w) _ all);
+    for = λ p x reversed low high stmts by_stmts at w k all.
         both (uses_both s at p low high (instruction.Start x reversed low high) w _) _
         (one_more (prep s low (0 ∷ at) w.scope _ ++ prep s high (1 ∷ at) (with_held s low (0 ∷ at) w.scope) _) _
         (both (prep s low (0 ∷ at) w.scope _) _ (prep_good low (0 ∷ at) w.scope _) (prep_good high (1 ∷ at) (with_held s low (0 ∷ at) w.scope) _)) tt)
-        (tt, laid_good stmts (2 ∷ at) (with_scope (x ∷ []) (within_loop k w)) _ all)
-    laid_good (Exit p e) at w k all =
-        both (uses s at p e (instruction.LeaveLoop e) w _) _ (uses_good at p e (instruction.LeaveLoop e) w _ tt) (ends_good at 1 p w.in_loop w.scope w.leave)
-    laid_good (Return p v) at w k all =
+        (tt, by_stmts (2 ∷ at) (with_scope (x ∷ []) (within_loop k w)) _ all);
+    exit = λ p e at w k all.
+        both (uses s at p e (instruction.LeaveLoop e) w _) _ (uses_good at p e (instruction.LeaveLoop e) w _ tt) (ends_good at 1 p w.in_loop w.scope w.leave);
+    return = λ p v at w k all.
         both (uses s at p v (instruction.Hold v) w _) _ (uses_good at p v (instruction.Hold v) w _ tt)
-        (one_more (ends at 1 p w.in_all w.scope _) _ (ends_good at 1 p w.in_all w.scope _) tt)
-    laid_good (Block n stmts end) at w k all =
-        both (laid s stmts (0 ∷ at) (within_block (ending s stmts) w) _) _ (laid_good stmts (0 ∷ at) (within_block (ending s stmts) w) _ all)
-        (ends_good at 0 end (ending s stmts) _ k)
-    laid_good _ at w k all = tt
+        (one_more (ends at 1 p w.in_all w.scope _) _ (ends_good at 1 p w.in_all w.scope _) tt);
+    block = λ n stmts end by_stmts at w k all.
+        both (laid s stmts (0 ∷ at) (within_block (ending s stmts) w) _) _ (by_stmts (0 ∷ at) (within_block (ending s stmts) w) _ all)
+        (ends_good at 0 end (ending s stmts) _ k);
+    others = λ c other at w k all. rw (laid_none s c at w k other) (tt);
+    branches = λ a rest by_a by_rest at w k m all.
+        both (laid_branch s a (0 ∷ at) w k _) _ (by_a (0 ∷ at) w k _ (λ x v is. all x v (inl is))) (by_rest (1 ∷ at) w k m (λ x v is. all x v (inr is)));
+    no_branches = λ c other at w k m all. rw (branches_none s c at w k m other) (tt);
+    branch = λ p e stmts by_stmts at w k m all.
+        both (uses s at p e (instruction.Test e) w _) _ (uses_good at p e (instruction.Test e) w _ tt) (by_stmts (1 ∷ at) w k all);
+    no_branch = λ c other at w k m all. rw (branch_none s c at w k m other) (tt);
+    alternatives = λ a rest by_a by_rest at w k all.
+        both (laid_when s a (0 ∷ at) w k) _ (by_a (0 ∷ at) w k (λ x v is. all x v (inl is))) (by_rest (1 ∷ at) w k (λ x v is. all x v (inr is)));
+    no_alternatives = λ c other at w k all. rw (whens_none s c at w k other) (tt);
+    alternative = λ choices stmts by_stmts at w k all.
+        by_stmts (1 ∷ at) w k all;
+    no_alternative = λ c other at w k all. rw (when_none s c at w k other) (tt);
+  }
 
-    branches_good : (c : TypedCode) (at : Place) (w : Around) (k m : List PointName) → AllOf c → Good (laid_branches s c at w k m)
-    branches_good (typed.More a rest) at w k m all =
-        both (laid_branch s a (0 ∷ at) w k _) _ (branch_good a (0 ∷ at) w k _ (λ x v is. all x v (inl is))) (branches_good rest (1 ∷ at) w k m (λ x v is. all x v (inr is)))
-    branches_good _ at w k m all = tt
-
-    branch_good : (c : TypedCode) (at : Place) (w : Around) (k m : List PointName) → AllOf c → Good (laid_branch s c at w k m)
-    branch_good (Branch p e stmts) at w k m all =
-        both (uses s at p e (instruction.Test e) w _) _ (uses_good at p e (instruction.Test e) w _ tt) (laid_good stmts (1 ∷ at) w k all)
-    branch_good _ at w k m all = tt
-
-    whens_good : (c : TypedCode) (at : Place) (w : Around) (k : List PointName) → AllOf c → Good (flat_map (λ ps. ps) (laid_whens s c at w k))
-    whens_good (typed.More a rest) at w k all =
-        both (laid_when s a (0 ∷ at) w k) _ (when_good a (0 ∷ at) w k (λ x v is. all x v (inl is))) (whens_good rest (1 ∷ at) w k (λ x v is. all x v (inr is)))
-    whens_good _ at w k all = tt
-
-    when_good : (c : TypedCode) (at : Place) (w : Around) (k : List PointName) → AllOf c → Good (laid_when s c at w k)
-    when_good (When choices stmts) at w k all = laid_good stmts (1 ∷ at) w k all
-    when_good _ at w k all = tt
+  laid_good : (c : TypedCode) (at : Place) (w : Around) (k : List PointName) → AllOf c → Good (laid s c at w k)
+  laid_good = on_code laid_good_cases
 
   end_good : (sub : TypedSub) (b : Bool) → Good (if b then function_end sub else procedure_end s sub)
   end_good sub true = (tt, tt)

@@ -16,6 +16,7 @@ use Rattle.machine.specs.flow_paths.Points.{Place, PointName, row_at, NamedPoint
 use Rattle.machine.specs.flow_paths.Prep.{Setting, held, with_held, prep}
 use Rattle.machine.specs.flow_paths.Layout.{Around, within_loop, within_block, with_scope, declared, from, ending, ends, closing, choices_of, laid, laid_branches, laid_branch, laid_whens, laid_when}
 use Rattle.machine.specs.flow_paths.Laid.{around_body, scope_at_end, procedure_end, function_end, sub_points, declared_within}
+use Rattle.settled_types.proofs.TypedCases.{Laws, branch_none, branches_none, laid_none, on_code, when_none, whens_none}
 use Rattle.settled_types.specs.OrderLaws.ScopeLaws.Code.{objects_of}
 use Rattle.settled_types.proofs.OrderLaws.ScopeLaws.Lists.{all_both, all_one, all_if, has_reverse}
 use Rattle.settled_types.proofs.OrderLaws.ScopeLaws.Ordered.{declared_within_has, held_temporary}
@@ -150,83 +151,87 @@ module _ (s : Setting) (P : ℕ → Type 0) (temporary : (at : Place) → P (s.t
   with_parameter x scope p h y (inl e) = subst P e p
   with_parameter x scope p h y (inr has) = h y has
 
-  mutual
-    unfolding laid declared_within
-
-    laid_within : (c : TypedCode) (at : Place) (w : Around) (k : List PointName) → Each (declared_within c) → Each w.scope → Each w.formals → Within (laid s c at w k)
-    laid_within (typed.More a rest) at w k own h f =
+  laid_within_cases : Laws (λ c. (at : Place) → (w : Around) → (k : List PointName) → Each (declared_within c) → Each w.scope → Each w.formals → Within (laid s c at w k))
+      (λ c. (at : Place) → (w : Around) → (k : List PointName) → (otherwise : List PointName) → Each (declared_within c) → Each w.scope → Each w.formals → Within (laid_branches s c at w k otherwise))
+      (λ c. (at : Place) → (w : Around) → (k : List PointName) → (otherwise : List PointName) → Each (declared_within c) → Each w.scope → Each w.formals → Within (laid_branch s c at w k otherwise))
+      (λ c. (at : Place) → (w : Around) → (k : List PointName) → Each (declared_within c) → Each w.scope → Each w.formals → Within (flat_map (λ ps. ps) (laid_whens s c at w k)))
+      (λ c. (at : Place) → (w : Around) → (k : List PointName) → Each (declared_within c) → Each w.scope → Each w.formals → Within (laid_when s c at w k))
+  unfolding laid declared_within
+  laid_within_cases = record {
+    list = λ a rest by_a by_rest at w k own h f.
         let v : Around = with_scope (declared a) w in
         let behind : List NamedPoint = laid s rest (1 ∷ at) v k in
         both (laid s a (0 ∷ at) w (entry behind k)) behind
-        (laid_within a (0 ∷ at) w (entry behind k) (left_each (declared_within a) (declared_within rest) own) h f)
-        (laid_within rest (1 ∷ at) v k (right_each (declared_within a) (declared_within rest) own)
-        (behind_each a w.scope (left_each (declared_within a) (declared_within rest) own) h) f)
-    laid_within (Declare p x v) at w k own h f = used at p v (instruction.Declare x v) w.scope k h
-    laid_within (Assign p target e) at w k own h f = paired at (1 ∷ at) (0 ∷ at) p e target (instruction.Assign target e) w.scope k h
-    laid_within (Skip p) at w k own h f = (h, tt)
-    laid_within (typed.Call p sub actuals) at w k own h f = used at p actuals (instruction.Call sub actuals None) w.scope k h
-    laid_within (Output p text line) at w k own h f = used at p text (instruction.Output text line) w.scope k h
-    laid_within (Input p target) at w k own h f = used at p target (instruction.Input target) w.scope k h
-    laid_within (Release p m) at w k own h f = used at p m (instruction.Release m) w.scope k h
-    laid_within (If branches otherwise) at w k own h f =
+        (by_a (0 ∷ at) w (entry behind k) (left_each (declared_within a) (declared_within rest) own) h f)
+        (by_rest (1 ∷ at) v k (right_each (declared_within a) (declared_within rest) own)
+        (behind_each a w.scope (left_each (declared_within a) (declared_within rest) own) h) f);
+    declare = λ p x v at w k own h f.
+        used at p v (instruction.Declare x v) w.scope k h;
+    assign = λ p target e at w k own h f.
+        paired at (1 ∷ at) (0 ∷ at) p e target (instruction.Assign target e) w.scope k h;
+    skip = λ p at w k own h f.
+        (h, tt);
+    call = λ p sub actuals at w k own h f.
+        used at p actuals (instruction.Call sub actuals None) w.scope k h;
+    output = λ p text line at w k own h f.
+        used at p text (instruction.Output text line) w.scope k h;
+    input = λ p target at w k own h f.
+        used at p target (instruction.Input target) w.scope k h;
+    release = λ p m at w k own h f.
+        used at p m (instruction.Release m) w.scope k h;
+    choice = λ branches otherwise by_branches by_otherwise at w k own h f.
         let behind : List NamedPoint = laid s otherwise (1 ∷ at) w k in
         both (laid_branches s branches (0 ∷ at) w k (entry behind k)) behind
-        (branches_within branches (0 ∷ at) w k (entry behind k) (left_each (declared_within branches) (declared_within otherwise) own) h f)
-        (laid_within otherwise (1 ∷ at) w k (right_each (declared_within branches) (declared_within otherwise) own) h f)
-    laid_within (Case p e whens) at w k own h f =
+        (by_branches (0 ∷ at) w k (entry behind k) (left_each (declared_within branches) (declared_within otherwise) own) h f)
+        (by_otherwise (1 ∷ at) w k (right_each (declared_within branches) (declared_within otherwise) own) h f);
+    cases = λ p e whens by_whens at w k own h f.
         both _ (flat_map (λ ps. ps) (laid_whens s whens (1 ∷ at) w k)) (used at p e (instruction.Choose e (choices_of whens)) w.scope _ h)
-        (whens_within whens (1 ∷ at) w k own h f)
-    laid_within (Loop stmts) at w k own h f = laid_within stmts (0 ∷ at) (within_loop k w) _ own h f
-    laid_within (While p e stmts) at w k own h f =
+        (by_whens (1 ∷ at) w k own h f);
+    loop = λ stmts by_stmts at w k own h f.
+        by_stmts (0 ∷ at) (within_loop k w) _ own h f;
+    while = λ p e stmts by_stmts at w k own h f.
         let turn : List PointName = entry (prep s e (0 ∷ at) w.scope (row_at at 0 ∷ [])) (row_at at 0 ∷ []) in
         both _ (laid s stmts (1 ∷ at) (within_loop k w) turn) (used at p e (instruction.Test e) w.scope _ h)
-        (laid_within stmts (1 ∷ at) (within_loop k w) turn own h f)
-    laid_within (For p x reversed low high stmts) at w k own h f =
+        (by_stmts (1 ∷ at) (within_loop k w) turn own h f);
+    for = λ p x reversed low high stmts by_stmts at w k own h f.
         let v : Around = with_scope (x ∷ []) (within_loop k w) in
         let next : List PointName = row_at at 1 ∷ [] in
         let inner : List NamedPoint = laid s stmts (2 ∷ at) v next in
         both _ (point (row_at at 1) p (instruction.Next x reversed low high) (x ∷ w.scope) (entry inner next ++ k) ∷ inner)
         (paired at (0 ∷ at) (1 ∷ at) p low high (instruction.Start x reversed low high) w.scope next h)
-        (with_parameter x w.scope (own x (inl refl)) h, laid_within stmts (2 ∷ at) v next (λ y has. own y (inr has)) (with_parameter x w.scope (own x (inl refl)) h) f)
-    laid_within (Exit p e) at w k own h f =
-        both _ (ends at 1 p w.in_loop w.scope w.leave) (used at p e (instruction.LeaveLoop e) w.scope _ h) (ends_within at 1 p w.in_loop w.scope w.leave h)
-    laid_within (Return p v) at w k own h f =
+        (with_parameter x w.scope (own x (inl refl)) h, by_stmts (2 ∷ at) v next (λ y has. own y (inr has)) (with_parameter x w.scope (own x (inl refl)) h) f);
+    exit = λ p e at w k own h f.
+        both _ (ends at 1 p w.in_loop w.scope w.leave) (used at p e (instruction.LeaveLoop e) w.scope _ h) (ends_within at 1 p w.in_loop w.scope w.leave h);
+    return = λ p v at w k own h f.
         both _ (closing at 1 p w) (used at p v (instruction.Hold v) w.scope _ h)
-        (last_within at 1 p p w.in_all w.scope w.formals (row_at at (suc (length w.in_all))) h f)
-    laid_within (Block n stmts end) at w k own h f =
+        (last_within at 1 p p w.in_all w.scope w.formals (row_at at (suc (length w.in_all))) h f);
+    block = λ n stmts end by_stmts at w k own h f.
         let out : List NamedPoint = ends at 0 end (ending s stmts) (reverse (declared stmts) ++ w.scope) k in
         both (laid s stmts (0 ∷ at) (within_block (ending s stmts) w) (entry out k)) out
-        (laid_within stmts (0 ∷ at) (within_block (ending s stmts) w) (entry out k) own h f)
-        (ends_within at 0 end (ending s stmts) (reverse (declared stmts) ++ w.scope) k (behind_each stmts w.scope own h))
-    laid_within _ at w k own h f = tt
-
-    branches_within : (c : TypedCode) (at : Place) (w : Around) (k otherwise : List PointName) → Each (declared_within c) → Each w.scope → Each w.formals
-        → Within (laid_branches s c at w k otherwise)
-    branches_within (typed.More a rest) at w k otherwise own h f =
+        (by_stmts (0 ∷ at) (within_block (ending s stmts) w) (entry out k) own h f)
+        (ends_within at 0 end (ending s stmts) (reverse (declared stmts) ++ w.scope) k (behind_each stmts w.scope own h));
+    others = λ c other at w k own h f. rw (laid_none s c at w k other) (tt);
+    branches = λ a rest by_a by_rest at w k otherwise own h f.
         let behind : List NamedPoint = laid_branches s rest (1 ∷ at) w k otherwise in
         both (laid_branch s a (0 ∷ at) w k (entry behind otherwise)) behind
-        (branch_within a (0 ∷ at) w k (entry behind otherwise) (left_each (declared_within a) (declared_within rest) own) h f)
-        (branches_within rest (1 ∷ at) w k otherwise (right_each (declared_within a) (declared_within rest) own) h f)
-    branches_within _ at w k otherwise own h f = tt
-
-    branch_within : (c : TypedCode) (at : Place) (w : Around) (k otherwise : List PointName) → Each (declared_within c) → Each w.scope → Each w.formals
-        → Within (laid_branch s c at w k otherwise)
-    branch_within (Branch p e stmts) at w k otherwise own h f =
-        both _ (laid s stmts (1 ∷ at) w k) (used at p e (instruction.Test e) w.scope _ h) (laid_within stmts (1 ∷ at) w k own h f)
-    branch_within _ at w k otherwise own h f = tt
-
-    whens_within : (c : TypedCode) (at : Place) (w : Around) (k : List PointName) → Each (declared_within c) → Each w.scope → Each w.formals
-        → Within (flat_map (λ ps. ps) (laid_whens s c at w k))
-    whens_within (typed.More a rest) at w k own h f =
+        (by_a (0 ∷ at) w k (entry behind otherwise) (left_each (declared_within a) (declared_within rest) own) h f)
+        (by_rest (1 ∷ at) w k otherwise (right_each (declared_within a) (declared_within rest) own) h f);
+    no_branches = λ c other at w k otherwise own h f. rw (branches_none s c at w k otherwise other) (tt);
+    branch = λ p e stmts by_stmts at w k otherwise own h f.
+        both _ (laid s stmts (1 ∷ at) w k) (used at p e (instruction.Test e) w.scope _ h) (by_stmts (1 ∷ at) w k own h f);
+    no_branch = λ c other at w k otherwise own h f. rw (branch_none s c at w k otherwise other) (tt);
+    alternatives = λ a rest by_a by_rest at w k own h f.
         both (laid_when s a (0 ∷ at) w k) (flat_map (λ ps. ps) (laid_whens s rest (1 ∷ at) w k))
-        (when_within a (0 ∷ at) w k (left_each (declared_within a) (declared_within rest) own) h f)
-        (whens_within rest (1 ∷ at) w k (right_each (declared_within a) (declared_within rest) own) h f)
-    whens_within _ at w k own h f = tt
+        (by_a (0 ∷ at) w k (left_each (declared_within a) (declared_within rest) own) h f)
+        (by_rest (1 ∷ at) w k (right_each (declared_within a) (declared_within rest) own) h f);
+    no_alternatives = λ c other at w k own h f. rw (whens_none s c at w k other) (tt);
+    alternative = λ choices stmts by_stmts at w k own h f.
+        by_stmts (1 ∷ at) w k own h f;
+    no_alternative = λ c other at w k own h f. rw (when_none s c at w k other) (tt);
+  }
 
-    when_within : (c : TypedCode) (at : Place) (w : Around) (k : List PointName) → Each (declared_within c) → Each w.scope → Each w.formals
-        → Within (laid_when s c at w k)
-    when_within (When choices stmts) at w k own h f = laid_within stmts (1 ∷ at) w k own h f
-    when_within _ at w k own h f = tt
+  laid_within : (c : TypedCode) (at : Place) (w : Around) (k : List PointName) → Each (declared_within c) → Each w.scope → Each w.formals → Within (laid s c at w k)
+  laid_within = on_code laid_within_cases
 
   -- ---- subprograms
 

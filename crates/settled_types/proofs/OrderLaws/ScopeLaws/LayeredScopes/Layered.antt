@@ -20,6 +20,7 @@ use Rattle.machine.specs.flow_paths.Scopes.{leaves_silently, is_declaration, is_
 use Rattle.machine.specs.flow_paths.Views.{scope_of}
 use Rattle.flow_paths.proofs.ScopesFlow.{drop_held}
 use Rattle.flow_paths.proofs.StatementScopes.{after, after_undeclaring, after_more}
+use Rattle.settled_types.proofs.TypedCases.{Laws, branch_none, branches_none, laid_none, on_code, when_none, whens_none}
 use Rattle.settled_types.proofs.OrderLaws.ScopeLaws.Lists.{and_first, and_second, all_both, has_reverse}
 use Rattle.settled_types.specs.OrderLaws.ScopeLaws.LayeredScopes.Layered.{are_of_scope, are_apart, is_layered, is_each_layered, is_region, is_body_layered}
 use Rattle.settled_types.specs.OrderLaws.ScopeLaws.LayeredScopes.Points.{IsAbove, GoesOn, AreFading}
@@ -235,12 +236,14 @@ module _ (s : Setting) (older : ℕ → ℕ → Bool) (fits : Instruction → Bo
   region_layered : (n : ℕ) (stmts : TypedCode) (scope : List ℕ) → is_region s.typing older fits n scope stmts ≡ true → Layered scope stmts
   region_layered n stmts scope h = and_second (are_apart s.typing n scope) _ (and_second (are_of_scope s.typing n (declared stmts)) _ h)
 
-  mutual
-    unfolding laid is_layered is_settled is_undeclaring declared
-
-    laid_good : (c : TypedCode) (at : Place) (w : Around) (k : List PointName) → is_settled s.typing c ≡ true → Layered w.scope c
-        → (is_declaration c ≡ false → Stands w (after c w.scope)) → Good (laid s c at w k)
-    laid_good (typed.More a rest) at w k h f st =
+  laid_good_cases : Laws (λ c. (at : Place) → (w : Around) → (k : List PointName) → is_settled s.typing c ≡ true → Layered w.scope c → (is_declaration c ≡ false → Stands w (after c w.scope)) → Good (laid s c at w k))
+      (λ c. (at : Place) → (w : Around) → (k : List PointName) → (otherwise : List PointName) → is_settled s.typing c ≡ true → is_each_layered s.typing older fits w.scope c ≡ true → Stands w w.scope → Good (laid_branches s c at w k otherwise))
+      (λ c. (at : Place) → (w : Around) → (k : List PointName) → (otherwise : List PointName) → is_settled s.typing c ≡ true → Layered w.scope c → Stands w w.scope → Good (laid_branch s c at w k otherwise))
+      (λ c. (at : Place) → (w : Around) → (k : List PointName) → is_settled s.typing c ≡ true → is_each_layered s.typing older fits w.scope c ≡ true → Stands w w.scope → Good (flat_map (λ ps. ps) (laid_whens s c at w k)))
+      (λ c. (at : Place) → (w : Around) → (k : List PointName) → is_settled s.typing c ≡ true → Layered w.scope c → Stands w w.scope → Good (laid_when s c at w k))
+  unfolding laid is_layered is_settled is_undeclaring declared
+  laid_good_cases = record {
+    list = λ a rest by_a by_rest at w k h f st.
         let first : is_settled s.typing a ≡ true = and_first (is_settled s.typing a) _ h in
         let more : (is_settled s.typing rest && (is_declaration a || is_undeclaring rest)) ≡ true = and_second (is_settled s.typing a) _ h in
         let second : is_settled s.typing rest ≡ true = and_first (is_settled s.typing rest) _ more in
@@ -250,38 +253,44 @@ module _ (s : Setting) (older : ℕ → ℕ → Bool) (fits : Instruction → Bo
         (λ none. subst (λ sc. Stands w sc)
         (after_undeclaring rest (after a w.scope) (or_second (is_declaration a) (is_undeclaring rest) (and_second (is_settled s.typing rest) _ more) none)) stands) in
         both (laid s a (0 ∷ at) w (entry behind k)) behind
-        (laid_good a (0 ∷ at) w (entry behind k) first (and_first (is_layered s.typing older fits w.scope a) _ f) stands_a)
-        (laid_good rest (1 ∷ at) (with_scope (declared a) w) k second (and_second (is_layered s.typing older fits w.scope a) _ f) (λ none. stands))
-    laid_good (Declare p x v) at w k h f st = used at v w.scope _ (declares_there (row_at at 0) p x v (0 ∷ at) w.scope k f)
-    laid_good (Assign p target e) at w k h f st =
-        paired at (1 ∷ at) (0 ∷ at) e target w.scope (with_held s e (1 ∷ at) w.scope) _ (assigns_there (row_at at 0) p target e _ k f)
-    laid_good (Skip p) at w k h f st = quiet _ refl
-    laid_good (typed.Call p sub actuals) at w k h f st = used at actuals w.scope _ (quiet _ refl)
-    laid_good (Output p text line) at w k h f st = used at text w.scope _ (quiet _ refl)
-    laid_good (Input p target) at w k h f st = used at target w.scope _ (quiet _ refl)
-    laid_good (Release p m) at w k h f st = used at m w.scope _ (quiet _ refl)
-    laid_good (If branches otherwise) at w k h f st =
+        (by_a (0 ∷ at) w (entry behind k) first (and_first (is_layered s.typing older fits w.scope a) _ f) stands_a)
+        (by_rest (1 ∷ at) (with_scope (declared a) w) k second (and_second (is_layered s.typing older fits w.scope a) _ f) (λ none. stands));
+    declare = λ p x v at w k h f st.
+        used at v w.scope _ (declares_there (row_at at 0) p x v (0 ∷ at) w.scope k f);
+    assign = λ p target e at w k h f st.
+        paired at (1 ∷ at) (0 ∷ at) e target w.scope (with_held s e (1 ∷ at) w.scope) _ (assigns_there (row_at at 0) p target e _ k f);
+    skip = λ p at w k h f st.
+        quiet _ refl;
+    call = λ p sub actuals at w k h f st.
+        used at actuals w.scope _ (quiet _ refl);
+    output = λ p text line at w k h f st.
+        used at text w.scope _ (quiet _ refl);
+    input = λ p target at w k h f st.
+        used at target w.scope _ (quiet _ refl);
+    release = λ p m at w k h f st.
+        used at m w.scope _ (quiet _ refl);
+    choice = λ branches otherwise by_branches by_otherwise at w k h f st.
         let first : is_settled s.typing branches ≡ true = and_first (is_settled s.typing branches) _ h in
         let more : (is_settled s.typing otherwise && is_undeclaring otherwise) ≡ true = and_second (is_settled s.typing branches) _ h in
         let none : after otherwise w.scope ≡ w.scope = after_undeclaring otherwise w.scope (and_second (is_settled s.typing otherwise) _ more) in
         let behind : List NamedPoint = laid s otherwise (1 ∷ at) w k in
         both (laid_branches s branches (0 ∷ at) w k (entry behind k)) behind
-        (branches_good branches (0 ∷ at) w k (entry behind k) first (and_first (is_each_layered s.typing older fits w.scope branches) _ f) (st refl))
-        (laid_good otherwise (1 ∷ at) w k (and_first (is_settled s.typing otherwise) _ more) (and_second (is_each_layered s.typing older fits w.scope branches) _ f)
-        (λ any. subst (λ sc. Stands w sc) (sym none) (st refl)))
-    laid_good (Case p e whens) at w k h f st =
-        both _ (flat_map (λ ps. ps) (laid_whens s whens (1 ∷ at) w k)) (used at e w.scope _ (quiet _ refl)) (whens_good whens (1 ∷ at) w k h f (st refl))
-    laid_good (Loop stmts) at w k h f st =
+        (by_branches (0 ∷ at) w k (entry behind k) first (and_first (is_each_layered s.typing older fits w.scope branches) _ f) (st refl))
+        (by_otherwise (1 ∷ at) w k (and_first (is_settled s.typing otherwise) _ more) (and_second (is_each_layered s.typing older fits w.scope branches) _ f)
+        (λ any. subst (λ sc. Stands w sc) (sym none) (st refl)));
+    cases = λ p e whens by_whens at w k h f st.
+        both _ (flat_map (λ ps. ps) (laid_whens s whens (1 ∷ at) w k)) (used at e w.scope _ (quiet _ refl)) (by_whens (1 ∷ at) w k h f (st refl));
+    loop = λ stmts by_stmts at w k h f st.
         let none : after stmts w.scope ≡ w.scope = after_undeclaring stmts w.scope (and_second (is_settled s.typing stmts) _ h) in
-        laid_good stmts (0 ∷ at) (within_loop k w) _ (and_first (is_settled s.typing stmts) _ h) f
-        (λ any. subst (λ sc. Stands (within_loop k w) sc) (sym none) (tt, (st refl).1))
-    laid_good (While p e stmts) at w k h f st =
+        by_stmts (0 ∷ at) (within_loop k w) _ (and_first (is_settled s.typing stmts) _ h) f
+        (λ any. subst (λ sc. Stands (within_loop k w) sc) (sym none) (tt, (st refl).1));
+    while = λ p e stmts by_stmts at w k h f st.
         let none : after stmts w.scope ≡ w.scope = after_undeclaring stmts w.scope (and_second (is_settled s.typing stmts) _ h) in
         let turn : List PointName = entry (prep s e (0 ∷ at) w.scope (row_at at 0 ∷ [])) (row_at at 0 ∷ []) in
         both _ (laid s stmts (1 ∷ at) (within_loop k w) turn) (used at e w.scope _ (quiet _ refl))
-        (laid_good stmts (1 ∷ at) (within_loop k w) turn (and_first (is_settled s.typing stmts) _ h) f
-        (λ any. subst (λ sc. Stands (within_loop k w) sc) (sym none) (tt, (st refl).1)))
-    laid_good (For p x reversed low high stmts) at w k h f st =
+        (by_stmts (1 ∷ at) (within_loop k w) turn (and_first (is_settled s.typing stmts) _ h) f
+        (λ any. subst (λ sc. Stands (within_loop k w) sc) (sym none) (tt, (st refl).1)));
+    for = λ p x reversed low high stmts by_stmts at w k h f st.
         let silent : leaves_silently s.typing x ≡ true = and_first (leaves_silently s.typing x) _ h in
         let more : (is_settled s.typing stmts && is_undeclaring stmts) ≡ true = and_second (leaves_silently s.typing x) _ h in
         let none : after stmts (x ∷ w.scope) ≡ x ∷ w.scope = after_undeclaring stmts (x ∷ w.scope) (and_second (is_settled s.typing stmts) _ more) in
@@ -292,57 +301,50 @@ module _ (s : Setting) (older : ℕ → ℕ → Bool) (fits : Instruction → Bo
         both (uses_both s at p low high (instruction.Start x reversed low high) w (next ∷ [])) _
         (paired at (0 ∷ at) (1 ∷ at) low high w.scope (with_held s low (0 ∷ at) w.scope) _ (quiet _ refl))
         (both (_ ∷ []) _ (quiet _ refl)
-        (laid_good stmts (2 ∷ at) v (next ∷ []) (and_first (is_settled s.typing stmts) _ more) (and_second (list_all (older x) w.scope) _ f)
-        (λ any. subst (λ sc. Stands v sc) (sym none) around)))
-    laid_good (Exit p e) at w k h f st =
-        both _ (ends at 1 p w.in_loop w.scope w.leave) (used at e w.scope _ (quiet _ refl)) (ends_good at 1 p w.in_loop w.scope w.leave (st refl).0)
-    laid_good (Return p v) at w k h f st =
+        (by_stmts (2 ∷ at) v (next ∷ []) (and_first (is_settled s.typing stmts) _ more) (and_second (list_all (older x) w.scope) _ f)
+        (λ any. subst (λ sc. Stands v sc) (sym none) around)));
+    exit = λ p e at w k h f st.
+        both _ (ends at 1 p w.in_loop w.scope w.leave) (used at e w.scope _ (quiet _ refl)) (ends_good at 1 p w.in_loop w.scope w.leave (st refl).0);
+    return = λ p v at w k h f st.
         both _ (closing at 1 p w) (used at v w.scope _ (quiet _ refl))
-        (last_good at 1 p p w.in_all w.scope w.formals (row_at at (suc (length w.in_all))) (st refl).1)
-    laid_good (Block n stmts end) at w k h f st =
+        (last_good at 1 p p w.in_all w.scope w.formals (row_at at (suc (length w.in_all))) (st refl).1);
+    block = λ n stmts end by_stmts at w k h f st.
         let v : Around = within_block (ending s stmts) w in
         let out : List NamedPoint = ends at 0 end (ending s stmts) (reverse (declared stmts) ++ w.scope) k in
         let own : Closes s.typing older fits (ending s stmts ++ []) (after stmts w.scope) = region_closes n stmts [] w.scope f tt in
         both (laid s stmts (0 ∷ at) v (entry out k)) out
-        (laid_good stmts (0 ∷ at) v (entry out k) h (region_layered n stmts w.scope f)
+        (by_stmts (0 ∷ at) v (entry out k) h (region_layered n stmts w.scope f)
         (λ any. (region_closes n stmts w.in_loop w.scope f (st refl).0, region_closes n stmts w.in_all w.scope f (st refl).1)))
         (ends_good at 0 end (ending s stmts) (after stmts w.scope) k
-        (subst (λ xs. Closes s.typing older fits xs (after stmts w.scope)) (no_more (ending s stmts)) own))
-    laid_good _ at w k h f st = none
-
-    branches_good : (c : TypedCode) (at : Place) (w : Around) (k otherwise : List PointName) → is_settled s.typing c ≡ true
-        → is_each_layered s.typing older fits w.scope c ≡ true → Stands w w.scope → Good (laid_branches s c at w k otherwise)
-    branches_good (typed.More a rest) at w k otherwise h f st =
+        (subst (λ xs. Closes s.typing older fits xs (after stmts w.scope)) (no_more (ending s stmts)) own));
+    others = λ c other at w k h f st. rw (laid_none s c at w k other) (none);
+    branches = λ a rest by_a by_rest at w k otherwise h f st.
         let behind : List NamedPoint = laid_branches s rest (1 ∷ at) w k otherwise in
         both (laid_branch s a (0 ∷ at) w k (entry behind otherwise)) behind
-        (branch_good a (0 ∷ at) w k (entry behind otherwise) (and_first (is_settled s.typing a) _ h) (and_first (is_layered s.typing older fits w.scope a) _ f) st)
-        (branches_good rest (1 ∷ at) w k otherwise (and_first (is_settled s.typing rest) _ (and_second (is_settled s.typing a) _ h))
-        (and_second (is_layered s.typing older fits w.scope a) _ f) st)
-    branches_good _ at w k otherwise h f st = none
-
-    branch_good : (c : TypedCode) (at : Place) (w : Around) (k otherwise : List PointName) → is_settled s.typing c ≡ true → Layered w.scope c
-        → Stands w w.scope → Good (laid_branch s c at w k otherwise)
-    branch_good (Branch p e stmts) at w k otherwise h f st =
+        (by_a (0 ∷ at) w k (entry behind otherwise) (and_first (is_settled s.typing a) _ h) (and_first (is_layered s.typing older fits w.scope a) _ f) st)
+        (by_rest (1 ∷ at) w k otherwise (and_first (is_settled s.typing rest) _ (and_second (is_settled s.typing a) _ h))
+        (and_second (is_layered s.typing older fits w.scope a) _ f) st);
+    no_branches = λ c other at w k otherwise h f st. rw (branches_none s c at w k otherwise other) (none);
+    branch = λ p e stmts by_stmts at w k otherwise h f st.
         let none : after stmts w.scope ≡ w.scope = after_undeclaring stmts w.scope (and_second (is_settled s.typing stmts) _ h) in
         both _ (laid s stmts (1 ∷ at) w k) (used at e w.scope _ (quiet _ refl))
-        (laid_good stmts (1 ∷ at) w k (and_first (is_settled s.typing stmts) _ h) f (λ any. subst (λ sc. Stands w sc) (sym none) st))
-    branch_good _ at w k otherwise h f st = none
-
-    whens_good : (c : TypedCode) (at : Place) (w : Around) (k : List PointName) → is_settled s.typing c ≡ true
-        → is_each_layered s.typing older fits w.scope c ≡ true → Stands w w.scope → Good (flat_map (λ ps. ps) (laid_whens s c at w k))
-    whens_good (typed.More a rest) at w k h f st =
+        (by_stmts (1 ∷ at) w k (and_first (is_settled s.typing stmts) _ h) f (λ any. subst (λ sc. Stands w sc) (sym none) st));
+    no_branch = λ c other at w k otherwise h f st. rw (branch_none s c at w k otherwise other) (none);
+    alternatives = λ a rest by_a by_rest at w k h f st.
         both (laid_when s a (0 ∷ at) w k) (flat_map (λ ps. ps) (laid_whens s rest (1 ∷ at) w k))
-        (when_good a (0 ∷ at) w k (and_first (is_settled s.typing a) _ h) (and_first (is_layered s.typing older fits w.scope a) _ f) st)
-        (whens_good rest (1 ∷ at) w k (and_first (is_settled s.typing rest) _ (and_second (is_settled s.typing a) _ h))
-        (and_second (is_layered s.typing older fits w.scope a) _ f) st)
-    whens_good _ at w k h f st = none
-
-    when_good : (c : TypedCode) (at : Place) (w : Around) (k : List PointName) → is_settled s.typing c ≡ true → Layered w.scope c → Stands w w.scope
-        → Good (laid_when s c at w k)
-    when_good (When choices stmts) at w k h f st =
+        (by_a (0 ∷ at) w k (and_first (is_settled s.typing a) _ h) (and_first (is_layered s.typing older fits w.scope a) _ f) st)
+        (by_rest (1 ∷ at) w k (and_first (is_settled s.typing rest) _ (and_second (is_settled s.typing a) _ h))
+        (and_second (is_layered s.typing older fits w.scope a) _ f) st);
+    no_alternatives = λ c other at w k h f st. rw (whens_none s c at w k other) (none);
+    alternative = λ choices stmts by_stmts at w k h f st.
         let none : after stmts w.scope ≡ w.scope = after_undeclaring stmts w.scope (and_second (is_settled s.typing stmts) _ h) in
-        laid_good stmts (1 ∷ at) w k (and_first (is_settled s.typing stmts) _ h) f (λ any. subst (λ sc. Stands w sc) (sym none) st)
-    when_good _ at w k h f st = none
+        by_stmts (1 ∷ at) w k (and_first (is_settled s.typing stmts) _ h) f (λ any. subst (λ sc. Stands w sc) (sym none) st);
+    no_alternative = λ c other at w k h f st. rw (when_none s c at w k other) (none);
+  }
+
+  laid_good : (c : TypedCode) (at : Place) (w : Around) (k : List PointName) → is_settled s.typing c ≡ true → Layered w.scope c
+      → (is_declaration c ≡ false → Stands w (after c w.scope)) → Good (laid s c at w k)
+  laid_good = on_code laid_good_cases
 
   -- ---- subprograms
 
