@@ -24,6 +24,7 @@ use Rattle.machine.specs.typed_tree.Statements.{scope_count, statements, typed_o
 use Rattle.machine.specs.typed_tree.Programs.{kind_of, entry_kind, TypedSub, DeclaredObject, Home, object_of, formals_of, front_formals, objects_in, local, in_package, package_text, program_objects, text_io, placed, subs_in, over_units, elaborated, site_of, typed_program}
 use Rattle.machine.specs.flow_paths.Laid.{declared_within}
 use Rattle.machine.specs.flow_paths.Objects.{object_at, is_formal, is_formal_kind, is_state, is_package_object}
+use Rattle.settled_types.proofs.Cases.{items_end, on_more}
 use Rattle.sound_files.specs.MeantFiles.Typed.{IsOf, AreIndicated, AreIntegers, AreTyped}
 use Rattle.sound_files.proofs.MeantFiles.Objects.{object_numbers, units_same}
 use Rattle.settled_types.proofs.OrderLaws.ScopeLaws.Lists.{all_both}
@@ -216,14 +217,16 @@ module _ (units : List Code) (made : ℕ → Type 0) where
 
   ids_sorted : (h : Home) (known : Known) → h.known ≡ known → (a : ℕ) (constant : Bool) (i ids : Code) → AreIndicated known made constant i ids
       → AreSorted (map (object_of h a mode.In) (code_items ids))
-  ids_sorted h known same a constant i (More d rest) typed =
-      (other_sorted h known same a mode.In d (not_formal known (declared_number d) _ _ typed.0 (either_kind constant)), ids_sorted h known same a constant i rest typed.2)
-  ids_sorted h known same a constant i ids typed = tt
+  ids_sorted h known same a constant i = on_more (λ ids. AreIndicated known made constant i ids → AreSorted (map (object_of h a mode.In) (code_items ids)))
+      (λ d rest next typed.
+      (other_sorted h known same a mode.In d (not_formal known (declared_number d) _ _ typed.0 (either_kind constant)), next typed.2))
+      (λ ids other typed. rw (items_end ids other) (tt))
 
   numbers_sorted : (h : Home) (known : Known) → h.known ≡ known → (a : ℕ) (ids : Code) → AreIntegers known ids → AreSorted (map (object_of h a mode.In) (code_items ids))
-  numbers_sorted h known same a (More d rest) typed =
-      (other_sorted h known same a mode.In d (not_formal known (declared_number d) _ _ typed.0 refl), numbers_sorted h known same a rest typed.1)
-  numbers_sorted h known same a ids typed = tt
+  numbers_sorted h known same a = on_more (λ ids. AreIntegers known ids → AreSorted (map (object_of h a mode.In) (code_items ids)))
+      (λ d rest next typed.
+      (other_sorted h known same a mode.In d (not_formal known (declared_number d) _ _ typed.0 refl), next typed.1))
+      (λ ids other typed. rw (items_end ids other) (tt))
 
   -- formals stand within a subprogram
   items_sorted : (h : Home) → h.identifier ≡ None → (a : ℕ) (m : Mode) (ds : List Code) → AreSorted (map (object_of h a m) ds)

@@ -19,6 +19,7 @@ use Rattle.machine.specs.type_definitions.Whole.{outside, known_of, is_formless,
 use Rattle.machine.specs.typed_tree.Expressions.{Site, object_number}
 use Rattle.machine.specs.typed_tree.Statements.{scope_count}
 use Rattle.machine.specs.typed_tree.Programs.{TypedSub, subs_in, placed, bodies_in, over_units, site_of, formal_numbers, front_formals, typed_program}
+use Rattle.settled_types.proofs.Cases.{items_end, on_more}
 use Rattle.settled_types.proofs.OrderLaws.ScopeLaws.Lists.{and_first}
 use Rattle.settled_types.specs.OrderLaws.ReadyLaws.InOrder.{IsSub}
 use Rattle.settled_types.specs.OrderLaws.Written.{is_procedure, is_unit, are_declarations, are_statements}
@@ -62,8 +63,10 @@ each_none s known first (More group rest) none =
     group_none (Formals ids m of) e = ids_none ids e
       where
         ids_none : (ids : Code) → formal_groups known first (Formals ids m of) ≡ [] → map (λ d. object_number s (declared_number d)) (code_items ids) ≡ []
-        ids_none (More d ids) e = absurd (false≢true (ap is_nil e))
-        ids_none ids e = refl
+        ids_none = on_more (λ ids. formal_groups known first (Formals ids m of) ≡ [] → map (λ d. object_number s (declared_number d)) (code_items ids) ≡ [])
+            (λ d ids _ e.
+            absurd (false≢true (ap is_nil e)))
+            (λ ids other e. rw (items_end ids other) (refl))
     group_none group e = refl
 each_none s known first formals none = refl
 

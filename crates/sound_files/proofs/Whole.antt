@@ -12,6 +12,7 @@ use Rattle.machine.specs.type_definitions.Entries.{entry_of, integer, marked}
 use Rattle.machine.specs.type_definitions.Names.{Context}
 use Rattle.machine.specs.type_definitions.Gathered.{gather, each, own_info, awaited_info, full_info, subtype_info, meant_by, constrained_shape, bound_pair, is_asked, are_static_bounds, with_entry, with_type, with_indication, with_object, constant_value, with_number, initial_value, with_formal, with_formal_group, with_formals, with_result, with_front, with_body_front, with_literals, with_definition, is_subprogram, front_number, in_subprogram, in_visible, in_hidden, declared_number, declared_pos, plain_object, parameter_type}
 use Rattle.machine.specs.type_definitions.Whole.{at_first, outside, gather_units, known_from, known_of}
+use Rattle.settled_types.proofs.Cases.{definition_end, each_end, formals_end, front_end, group_end, indication_end, on_access, on_enumeration, on_front, on_group, on_more, result_end}
 use Rattle.settled_types.specs.Orderly.{Past, at_start, past_after, within, Orderly, AllOrderly, IsOrderly}
 
 -- The row of Integer owns nothing, whatever owns.
@@ -38,30 +39,40 @@ type_bare d i c low bare = λ owns.
 
 each_bare : (f : Code → Context → Context) → ((d : Code) (c : Context) → IsBare c.known.table → IsBare (f d c).known.table) → (ids : Code) (c : Context)
     → IsBare c.known.table → IsBare (each f ids c).known.table
-each_bare f keeps (More a rest) c bare = each_bare f keeps rest (f a c) (keeps a c bare)
-each_bare f keeps _ c bare = bare
+each_bare f keeps = on_more (λ ids. (c : Context) → IsBare c.known.table → IsBare (each f ids c).known.table)
+    (λ a rest next c bare.
+    next (f a c) (keeps a c bare))
+    (λ ids other c bare. rw (each_end f ids c other) (bare))
 
 indication_bare : (d : ℕ) (i : Code) (c : Context) → IsBare c.known.table → IsBare (with_indication d i c).known.table
-indication_bare d (Anonymous p constant m) c bare =
-    bare_row c.known.table d (own_info (shape.Access (marked c.known m) constant false) d) (λ owns. refl) bare
-indication_bare d _ c bare = bare
+indication_bare d = on_access (λ i. (c : Context) → IsBare c.known.table → IsBare (with_indication d i c).known.table)
+    (λ p constant m c bare.
+    bare_row c.known.table d (own_info (shape.Access (marked c.known m) constant false) d) (λ owns. refl) bare)
+    (λ i other c bare. rw (indication_end d i c other) (bare))
 
 group_bare : (group : Code) (c : Context) → IsBare c.known.table → IsBare (with_formal_group group c).known.table
-group_bare (Formals names m of) c bare = each_bare (with_formal of) (λ d c bare. indication_bare (declared_number d) of c bare) names c bare
-group_bare _ c bare = bare
+group_bare = on_group (λ group. (c : Context) → IsBare c.known.table → IsBare (with_formal_group group c).known.table)
+    (λ names m of c bare.
+    each_bare (with_formal of) (λ d c bare. indication_bare (declared_number d) of c bare) names c bare)
+    (λ group other c bare. rw (group_end group c other) (bare))
 
 result_bare : (d : ℕ) (result : Code) (c : Context) → IsBare c.known.table → IsBare (with_result d result c).known.table
-result_bare d (More i rest) c bare = indication_bare d i c bare
-result_bare d _ c bare = bare
+result_bare d = on_more (λ result. (c : Context) → IsBare c.known.table → IsBare (with_result d result c).known.table)
+    (λ i rest _ c bare.
+    indication_bare d i c bare)
+    (λ result other c bare. rw (result_end d result c other) (bare))
 
 front_bare : (front : Code) (c : Context) → IsBare c.known.table → IsBare (with_front front c).known.table
-front_bare (Front d formals result) c bare =
-    each_bare with_formal_group group_bare formals (with_result (declared_number d) result c) (result_bare (declared_number d) result c bare)
-front_bare _ c bare = bare
+front_bare = on_front (λ front. (c : Context) → IsBare c.known.table → IsBare (with_front front c).known.table)
+    (λ d formals result c bare.
+    each_bare with_formal_group group_bare formals (with_result (declared_number d) result c) (result_bare (declared_number d) result c bare))
+    (λ front other c bare. rw (front_end front c other) (bare))
 
 formals_bare : (front : Code) (c : Context) → IsBare c.known.table → IsBare (with_formals front c).known.table
-formals_bare (Front d formals result) c bare = each_bare with_formal_group group_bare formals c bare
-formals_bare _ c bare = bare
+formals_bare = on_front (λ front. (c : Context) → IsBare c.known.table → IsBare (with_formals front c).known.table)
+    (λ d formals result c bare.
+    each_bare with_formal_group group_bare formals c bare)
+    (λ front other c bare. rw (formals_end front c other) (bare))
 
 body_bare : (front : Code) (c : Context) → IsBare c.known.table → IsBare (with_body_front front c).known.table
 body_bare front c bare = by (is_subprogram (entry_of c.known (front_number front)))
@@ -75,8 +86,10 @@ literals_bare t n (More d rest) c bare = literals_bare t (n + 1) rest (with_entr
 literals_bare t n _ c bare = bare
 
 definition_bare : (t : ℕ) (def : Code) (c : Context) → IsBare c.known.table → IsBare (with_definition t def c).known.table
-definition_bare t (Enumeration literals) c bare = literals_bare t 0 literals c bare
-definition_bare t _ c bare = bare
+definition_bare t = on_enumeration (λ def. (c : Context) → IsBare c.known.table → IsBare (with_definition t def c).known.table)
+    (λ literals c bare.
+    literals_bare t 0 literals c bare)
+    (λ def other c bare. rw (definition_end t def c other) (bare))
 
 -- ---- all of the code
 

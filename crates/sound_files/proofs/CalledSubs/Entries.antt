@@ -14,6 +14,7 @@ use Rattle.machine.specs.type_definitions.Entries.{entry_of}
 use Rattle.machine.specs.type_definitions.Names.{Context}
 use Rattle.machine.specs.type_definitions.Gathered.{gather, each, with_entry, with_type, with_indication, full_info, with_literals, with_definition, with_object, object_info, constant_value, indicated, with_number, number_info, initial_value, with_formal, with_formal_group, with_formals, with_result, with_front, with_body_front, profile, is_subprogram, front_number, plain_object, parameter_type, in_subprogram, in_visible, in_hidden, instance_type, declared_number}
 use Rattle.machine.specs.type_definitions.Whole.{predefined_entries, at_first, outside, gather_units, known_from, known_of}
+use Rattle.settled_types.proofs.Cases.{definition_end, each_end, formals_end, front_end, group_end, indication_end, on_access, on_enumeration, on_front, on_group, on_more, result_end}
 use Rattle.sound_files.specs.CalledSubs.Called.{is_subprogram_entry, sub_numbers}
 
 entry_put : (P : ℕ → Type 0) (xs : List Entry) (d : ℕ) (x : Entry) → (is_subprogram_entry x ≡ true → P d)
@@ -50,17 +51,23 @@ module _ (asked : ℕ → Type 0) where
   literals_keep t n ids c keeps = keeps
 
   definition_keeps : (t : ℕ) (def : Code) (c : Context) → Keeps asked c → Keeps asked (with_definition t def c)
-  definition_keeps t (Enumeration literals) c keeps = literals_keep t 0 literals c keeps
-  definition_keeps t def c keeps = keeps
+  definition_keeps t = on_enumeration (λ def. (c : Context) → Keeps asked c → Keeps asked (with_definition t def c))
+      (λ literals c keeps.
+      literals_keep t 0 literals c keeps)
+      (λ def other c keeps. rw (definition_end t def c other) (keeps))
 
   indication_keeps : (d : ℕ) (i : Code) (c : Context) → Keeps asked c → Keeps asked (with_indication d i c)
-  indication_keeps d (Anonymous p constant m) c keeps = keeps
-  indication_keeps d i c keeps = keeps
+  indication_keeps d = on_access (λ i. (c : Context) → Keeps asked c → Keeps asked (with_indication d i c))
+      (λ p constant m c keeps.
+      keeps)
+      (λ i other c keeps. rw (indication_end d i c other) (keeps))
 
   each_keeps : (f : Code → Context → Context) → ((a : Code) (c : Context) → Keeps asked c → Keeps asked (f a c)) → (ids : Code) (c : Context)
       → Keeps asked c → Keeps asked (each f ids c)
-  each_keeps f one (More a rest) c keeps = each_keeps f one rest (f a c) (one a c keeps)
-  each_keeps f one ids c keeps = keeps
+  each_keeps f one = on_more (λ ids. (c : Context) → Keeps asked c → Keeps asked (each f ids c))
+      (λ a rest next c keeps.
+      next (f a c) (one a c keeps))
+      (λ ids other c keeps. rw (each_end f ids c other) (keeps))
 
   object_keeps : (constant : Bool) (i : Code) (v : InitialValue) (d : Code) (c : Context) → Keeps asked c → Keeps asked (with_object constant i v d c)
   object_keeps constant i v d c keeps =
@@ -68,8 +75,10 @@ module _ (asked : ℕ → Type 0) where
       other (indication_keeps (declared_number d) i c keeps)
 
   result_keeps : (d : ℕ) (result : Code) (c : Context) → Keeps asked c → Keeps asked (with_result d result c)
-  result_keeps d (More i rest) c keeps = indication_keeps d i c keeps
-  result_keeps d result c keeps = keeps
+  result_keeps d = on_more (λ result. (c : Context) → Keeps asked c → Keeps asked (with_result d result c))
+      (λ i rest _ c keeps.
+      indication_keeps d i c keeps)
+      (λ result other c keeps. rw (result_end d result c other) (keeps))
 
   formal_keeps : (of d : Code) (c : Context) → Keeps asked c → Keeps asked (with_formal of d c)
   formal_keeps of d c keeps =
@@ -77,23 +86,28 @@ module _ (asked : ℕ → Type 0) where
       other (indication_keeps (declared_number d) of c keeps)
 
   group_keeps : (g : Code) (c : Context) → Keeps asked c → Keeps asked (with_formal_group g c)
-  group_keeps (Formals ids m of) c keeps = each_keeps (with_formal of) (λ d c keeps. formal_keeps of d c keeps) ids c keeps
-  group_keeps g c keeps = keeps
+  group_keeps = on_group (λ g. (c : Context) → Keeps asked c → Keeps asked (with_formal_group g c))
+      (λ ids m of c keeps.
+      each_keeps (with_formal of) (λ d c keeps. formal_keeps of d c keeps) ids c keeps)
+      (λ g other c keeps. rw (group_end g c other) (keeps))
 
   groups_keep : (formals : Code) (c : Context) → Keeps asked c → Keeps asked (each with_formal_group formals c)
   groups_keep formals c keeps = each_keeps with_formal_group (λ g c keeps. group_keeps g c keeps) formals c keeps
 
   front_keeps : (front : Code) (c : Context) → asked (front_number front) → Keeps asked c → Keeps asked (with_front front c)
-  front_keeps (Front d formals result) c is keeps =
+  front_keeps = on_front (λ front. (c : Context) → asked (front_number front) → Keeps asked c → Keeps asked (with_front front c))
+      (λ d formals result c is keeps.
       let n : ℕ = declared_number d in
       let inner : Context = each with_formal_group formals (with_result n result c) in
       put n (entry.Subprogram (profile inner.known (Front d formals result))) inner (λ e. is)
-      (groups_keep formals (with_result n result c) (result_keeps n result c keeps))
-  front_keeps front c is keeps = keeps
+      (groups_keep formals (with_result n result c) (result_keeps n result c keeps)))
+      (λ front other c is keeps. rw (front_end front c other) (keeps))
 
   formals_keep : (front : Code) (c : Context) → Keeps asked c → Keeps asked (with_formals front c)
-  formals_keep (Front d formals result) c keeps = groups_keep formals c keeps
-  formals_keep front c keeps = keeps
+  formals_keep = on_front (λ front. (c : Context) → Keeps asked c → Keeps asked (with_formals front c))
+      (λ d formals result c keeps.
+      groups_keep formals c keeps)
+      (λ front other c keeps. rw (formals_end front c other) (keeps))
 
   body_keeps : (front : Code) (c : Context) → asked (front_number front) → Keeps asked c → Keeps asked (with_body_front front c)
   body_keeps front c is keeps = by (is_subprogram (entry_of c.known (front_number front)))

@@ -11,6 +11,7 @@ use Rattle.machine.specs.flow_paths.Names.{has_call}
 use Rattle.machine.specs.flow_paths.Points.{Place, PointName, row_at, NamedPoint, point, entry}
 use Rattle.machine.specs.flow_paths.Prep.{Setting, with_held, prep}
 use Rattle.machine.specs.flow_paths.Layout.{Around, within_loop, within_block, with_scope, declared, from, ending, ends, closing, uses, uses_both, uses_second_first, laid, laid_branches, laid_branch, laid_whens, laid_when}
+use Rattle.settled_types.proofs.TypedCases.{Laws, branch_none, branches_none, laid_none, on_code, when_none, whens_none}
 use Rattle.settled_types.proofs.OrderLaws.ScopeLaws.Lists.{all_both, all_one}
 use Rattle.sound_files.specs.CalledSubs.Called.{Calls, CodeCalls, PointCalls}
 
@@ -105,66 +106,75 @@ module _ (asked : ℕ → TypedTree → Type 0) where
     joined [] all = tt
     joined (ps ∷ pss) all = both ps (flat_map (λ ps. ps) pss) all.0 (joined pss all.1)
 
-    mutual
-      unfolding laid laid_branches laid_branch laid_whens laid_when CodeCalls
-
-      pub laid_asked : (c : TypedCode) (at : Place) (w : Around) (k : List PointName) → CodeCalls asked c → Asked (laid s c at w k)
-      laid_asked (typed.More a rest) at w k calls =
+    laid_asked_cases : Laws (λ c. (at : Place) → (w : Around) → (k : List PointName) → CodeCalls asked c → Asked (laid s c at w k))
+        (λ c. (at : Place) → (w : Around) → (k : List PointName) → (otherwise : List PointName) → CodeCalls asked c → Asked (laid_branches s c at w k otherwise))
+        (λ c. (at : Place) → (w : Around) → (k : List PointName) → (otherwise : List PointName) → CodeCalls asked c → Asked (laid_branch s c at w k otherwise))
+        (λ c. (at : Place) → (w : Around) → (k : List PointName) → CodeCalls asked c → AllByRecursion Asked (laid_whens s c at w k))
+        (λ c. (at : Place) → (w : Around) → (k : List PointName) → CodeCalls asked c → Asked (laid_when s c at w k))
+    unfolding laid laid_branches laid_branch laid_whens laid_when CodeCalls
+    laid_asked_cases = record {
+      list = λ a rest by_a by_rest at w k calls.
           let behind : List NamedPoint = laid s rest (1 ∷ at) (with_scope (declared a) w) k in
-          both (laid s a (0 ∷ at) w (entry behind k)) behind (laid_asked a (0 ∷ at) w (entry behind k) calls.0)
-          (laid_asked rest (1 ∷ at) (with_scope (declared a) w) k calls.1)
-      laid_asked (Declare p x v) at w k calls = used at p v (instruction.Declare x v) w k calls tt
-      laid_asked (Assign p target e) at w k calls = used_second at p target e (instruction.Assign target e) w k calls.0 calls.1 tt
-      laid_asked (Skip p) at w k calls = (tt, tt)
-      laid_asked (typed.Call p sub actuals) at w k calls = used at p actuals (instruction.Call sub actuals None) w k calls.1 calls.0
-      laid_asked (Output p text line) at w k calls = used at p text (instruction.Output text line) w k calls tt
-      laid_asked (Input p target) at w k calls = used at p target (instruction.Input target) w k calls tt
-      laid_asked (Release p m) at w k calls = used at p m (instruction.Release m) w k calls tt
-      laid_asked (If branches otherwise) at w k calls =
+          both (laid s a (0 ∷ at) w (entry behind k)) behind (by_a (0 ∷ at) w (entry behind k) calls.0)
+          (by_rest (1 ∷ at) (with_scope (declared a) w) k calls.1);
+      declare = λ p x v at w k calls.
+          used at p v (instruction.Declare x v) w k calls tt;
+      assign = λ p target e at w k calls.
+          used_second at p target e (instruction.Assign target e) w k calls.0 calls.1 tt;
+      skip = λ p at w k calls.
+          (tt, tt);
+      call = λ p sub actuals at w k calls.
+          used at p actuals (instruction.Call sub actuals None) w k calls.1 calls.0;
+      output = λ p text line at w k calls.
+          used at p text (instruction.Output text line) w k calls tt;
+      input = λ p target at w k calls.
+          used at p target (instruction.Input target) w k calls tt;
+      release = λ p m at w k calls.
+          used at p m (instruction.Release m) w k calls tt;
+      choice = λ branches otherwise by_branches by_otherwise at w k calls.
           let behind : List NamedPoint = laid s otherwise (1 ∷ at) w k in
-          both (laid_branches s branches (0 ∷ at) w k (entry behind k)) behind (branches_asked branches (0 ∷ at) w k (entry behind k) calls.0)
-          (laid_asked otherwise (1 ∷ at) w k calls.1)
-      laid_asked (Case p e whens) at w k calls =
+          both (laid_branches s branches (0 ∷ at) w k (entry behind k)) behind (by_branches (0 ∷ at) w k (entry behind k) calls.0)
+          (by_otherwise (1 ∷ at) w k calls.1);
+      cases = λ p e whens by_whens at w k calls.
           let behind : List (List NamedPoint) = laid_whens s whens (1 ∷ at) w k in
           both _ (flat_map (λ ps. ps) behind) (used at p e _ w (flat_map (λ ps. entry ps k) behind) calls.0 tt)
-          (joined behind (whens_asked whens (1 ∷ at) w k calls.1))
-      laid_asked (Loop stmts) at w k calls =
-          laid_asked stmts (0 ∷ at) (within_loop k w) (entry (laid s stmts (0 ∷ at) (within_loop k w) k) k) calls
-      laid_asked (While p e stmts) at w k calls =
+          (joined behind (by_whens (1 ∷ at) w k calls.1));
+      loop = λ stmts by_stmts at w k calls.
+          by_stmts (0 ∷ at) (within_loop k w) (entry (laid s stmts (0 ∷ at) (within_loop k w) k) k) calls;
+      while = λ p e stmts by_stmts at w k calls.
           let turn : List PointName = entry (prep s e (0 ∷ at) w.scope (row_at at 0 ∷ [])) (row_at at 0 ∷ []) in
           let inner : List NamedPoint = laid s stmts (1 ∷ at) (within_loop k w) turn in
           both _ inner (used at p e (instruction.Test e) w (entry inner turn ++ k) calls.0 tt)
-          (laid_asked stmts (1 ∷ at) (within_loop k w) turn calls.1)
-      laid_asked (For p x reversed low high stmts) at w k calls =
+          (by_stmts (1 ∷ at) (within_loop k w) turn calls.1);
+      for = λ p x reversed low high stmts by_stmts at w k calls.
           both (uses_both s at p low high (instruction.Start x reversed low high) w (row_at at 1 ∷ [])) _
           (used_both at p low high (instruction.Start x reversed low high) w (row_at at 1 ∷ []) calls.0 calls.1.0 tt)
-          (tt, laid_asked stmts (2 ∷ at) (with_scope (x ∷ []) (within_loop k w)) (row_at at 1 ∷ []) calls.1.1)
-      laid_asked (Exit p e) at w k calls =
-          both _ (ends at 1 p w.in_loop w.scope w.leave) (used at p e (instruction.LeaveLoop e) w _ calls tt) (ends_asked at 1 p w.in_loop w.scope w.leave)
-      laid_asked (Return p v) at w k calls = both _ (closing at 1 p w) (used at p v (instruction.Hold v) w _ calls tt) (closing_asked at 1 p w)
-      laid_asked (Block n stmts end) at w k calls =
+          (tt, by_stmts (2 ∷ at) (with_scope (x ∷ []) (within_loop k w)) (row_at at 1 ∷ []) calls.1.1);
+      exit = λ p e at w k calls.
+          both _ (ends at 1 p w.in_loop w.scope w.leave) (used at p e (instruction.LeaveLoop e) w _ calls tt) (ends_asked at 1 p w.in_loop w.scope w.leave);
+      return = λ p v at w k calls.
+          both _ (closing at 1 p w) (used at p v (instruction.Hold v) w _ calls tt) (closing_asked at 1 p w);
+      block = λ n stmts end by_stmts at w k calls.
           let out : List NamedPoint = ends at 0 end (ending s stmts) (reverse (declared stmts) ++ w.scope) k in
           both (laid s stmts (0 ∷ at) (within_block (ending s stmts) w) (entry out k)) out
-          (laid_asked stmts (0 ∷ at) (within_block (ending s stmts) w) (entry out k) calls) (ends_asked at 0 end (ending s stmts) _ k)
-      laid_asked _ at w k calls = tt
-
-      branches_asked : (c : TypedCode) (at : Place) (w : Around) (k otherwise : List PointName) → CodeCalls asked c → Asked (laid_branches s c at w k otherwise)
-      branches_asked (typed.More a rest) at w k otherwise calls =
+          (by_stmts (0 ∷ at) (within_block (ending s stmts) w) (entry out k) calls) (ends_asked at 0 end (ending s stmts) _ k);
+      others = λ c other at w k calls. rw (laid_none s c at w k other) (tt);
+      branches = λ a rest by_a by_rest at w k otherwise calls.
           let behind : List NamedPoint = laid_branches s rest (1 ∷ at) w k otherwise in
-          both (laid_branch s a (0 ∷ at) w k (entry behind otherwise)) behind (branch_asked a (0 ∷ at) w k (entry behind otherwise) calls.0)
-          (branches_asked rest (1 ∷ at) w k otherwise calls.1)
-      branches_asked _ at w k otherwise calls = tt
-
-      branch_asked : (c : TypedCode) (at : Place) (w : Around) (k otherwise : List PointName) → CodeCalls asked c → Asked (laid_branch s c at w k otherwise)
-      branch_asked (Branch p e stmts) at w k otherwise calls =
+          both (laid_branch s a (0 ∷ at) w k (entry behind otherwise)) behind (by_a (0 ∷ at) w k (entry behind otherwise) calls.0)
+          (by_rest (1 ∷ at) w k otherwise calls.1);
+      no_branches = λ c other at w k otherwise calls. rw (branches_none s c at w k otherwise other) (tt);
+      branch = λ p e stmts by_stmts at w k otherwise calls.
           let inner : List NamedPoint = laid s stmts (1 ∷ at) w k in
-          both _ inner (used at p e (instruction.Test e) w (entry inner k ++ otherwise) calls.0 tt) (laid_asked stmts (1 ∷ at) w k calls.1)
-      branch_asked _ at w k otherwise calls = tt
+          both _ inner (used at p e (instruction.Test e) w (entry inner k ++ otherwise) calls.0 tt) (by_stmts (1 ∷ at) w k calls.1);
+      no_branch = λ c other at w k otherwise calls. rw (branch_none s c at w k otherwise other) (tt);
+      alternatives = λ a rest by_a by_rest at w k calls.
+          (by_a (0 ∷ at) w k calls.0, by_rest (1 ∷ at) w k calls.1);
+      no_alternatives = λ c other at w k calls. rw (whens_none s c at w k other) (tt);
+      alternative = λ choices stmts by_stmts at w k calls.
+          by_stmts (1 ∷ at) w k calls;
+      no_alternative = λ c other at w k calls. rw (when_none s c at w k other) (tt);
+    }
 
-      whens_asked : (c : TypedCode) (at : Place) (w : Around) (k : List PointName) → CodeCalls asked c → AllByRecursion Asked (laid_whens s c at w k)
-      whens_asked (typed.More a rest) at w k calls = (when_asked a (0 ∷ at) w k calls.0, whens_asked rest (1 ∷ at) w k calls.1)
-      whens_asked _ at w k calls = tt
-
-      when_asked : (c : TypedCode) (at : Place) (w : Around) (k : List PointName) → CodeCalls asked c → Asked (laid_when s c at w k)
-      when_asked (When choices stmts) at w k calls = laid_asked stmts (1 ∷ at) w k calls
-      when_asked _ at w k calls = tt
+    pub laid_asked : (c : TypedCode) (at : Place) (w : Around) (k : List PointName) → CodeCalls asked c → Asked (laid s c at w k)
+    laid_asked = on_code laid_asked_cases

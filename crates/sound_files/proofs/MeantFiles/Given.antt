@@ -17,6 +17,7 @@ use Rattle.machine.specs.type_definitions.Entries.{entry_of}
 use Rattle.machine.specs.type_definitions.Names.{Context}
 use Rattle.machine.specs.type_definitions.Gathered.{gather, each, with_entry, with_type, with_indication, full_info, with_literals, with_definition, with_object, object_info, constant_value, indicated, with_number, number_info, initial_value, with_formal, with_formal_group, with_formals, with_result, with_front, with_body_front, profile, is_subprogram, front_number, plain_object, parameter_type, in_subprogram, in_visible, in_hidden, instance_type, declared_number}
 use Rattle.machine.specs.type_definitions.Whole.{predefined_entries}
+use Rattle.settled_types.proofs.Cases.{indication_end, on_access, on_more, result_end}
 use Rattle.sound_files.proofs.MeantFiles.Lists.{entry_put, entry_there, entry_other, set_long, append_nothing, at_most}
 use Rattle.sound_files.specs.MeantFiles.Declarations.{Declarations, each_as, literals_of, group_declarations, formal_declarations, front_declarations, body_form, form_of_result, declarations}
 use Rattle.sound_files.specs.MeantFiles.Counted.{is_completing, Counts}
@@ -273,8 +274,10 @@ module _ (kind_at : ℕ → DeclKind) where
     definition_given t def c k j goes given = done k j c goes given
 
     pub indication_given : (d : ℕ) (i : Code) (c : Context) (k : ℕ) → At c k → At (with_indication d i c) k
-    indication_given d (Anonymous p constant m) c k given = given
-    indication_given d i c k given = given
+    indication_given d = on_access (λ i. (c : Context) → (k : ℕ) → At c k → At (with_indication d i c) k)
+        (λ p constant m c k given.
+        given)
+        (λ i other c k given. rw (indication_end d i c other) (given))
 
     objects_given : (constant : Bool) (i : Code) (v : InitialValue) (ids : Code) (c : Context) (k j : ℕ) → Goes limit k (each_as form.Object ids) j → At c k
         → At (each (with_object constant i v) ids c) j
@@ -296,8 +299,10 @@ module _ (kind_at : ℕ → DeclKind) where
     numbers_given v ids c k j goes given = done k j c goes given
 
     pub result_given : (d : ℕ) (result : Code) (c : Context) (k : ℕ) → At c k → At (with_result d result c) k
-    result_given d (More i rest) c k given = indication_given d i c k given
-    result_given d result c k given = given
+    result_given d = on_more (λ result. (c : Context) → (k : ℕ) → At c k → At (with_result d result c) k)
+        (λ i rest _ c k given.
+        indication_given d i c k given)
+        (λ result other c k given. rw (result_end d result c other) (given))
 
     -- the numbers of these are less
     abbrev pub Below : Declarations → ℕ → Type 0
@@ -316,12 +321,16 @@ module _ (kind_at : ℕ → DeclKind) where
       pub kept : is_put (entry_of c.known h) ≡ true → is_put (entry_of e.known h) ≡ true
 
     pub indication_open : (d : ℕ) (i : Code) (c : Context) (h k : ℕ) → Open c h k → Open (with_indication d i c) h k
-    indication_open d (Anonymous p constant m) c h k free = free
-    indication_open d i c h k free = free
+    indication_open d = on_access (λ i. (c : Context) → (h : ℕ) → (k : ℕ) → Open c h k → Open (with_indication d i c) h k)
+        (λ p constant m c h k free.
+        free)
+        (λ i other c h k free. rw (indication_end d i c other) (free))
 
     indication_kept : (d : ℕ) (i : Code) (c : Context) (h : ℕ) → is_put (entry_of c.known h) ≡ true → is_put (entry_of (with_indication d i c).known h) ≡ true
-    indication_kept d (Anonymous p constant m) c h is = is
-    indication_kept d i c h is = is
+    indication_kept d = on_access (λ i. (c : Context) → (h : ℕ) → is_put (entry_of c.known h) ≡ true → is_put (entry_of (with_indication d i c).known h) ≡ true)
+        (λ p constant m c h is.
+        is)
+        (λ i other c h is. rw (indication_end d i c other) (is))
 
     pub names_given : (h : ℕ) (of ids : Code) (c : Context) (k : ℕ) (L : Declarations) (j : ℕ) → Goes limit k (each_as form.Formal ids ++ L) j → Open c h k
         → Formed (each_as form.Formal ids) h k L j c (each (with_formal of) ids c)

@@ -16,6 +16,7 @@ use Rattle.machine.specs.type_definitions.Expressions.{profile_of}
 use Rattle.machine.specs.type_definitions.Names.{Context}
 use Rattle.machine.specs.type_definitions.Gathered.{gather, each, with_entry, with_type, with_indication, full_info, with_literals, with_definition, with_object, object_info, constant_value, indicated, with_number, number_info, initial_value, with_formal, with_formal_group, with_formals, with_result, with_front, with_body_front, profile, is_subprogram, front_number, plain_object, parameter_type, in_subprogram, in_visible, in_hidden, instance_type, declared_number}
 use Rattle.machine.specs.type_definitions.Whole.{predefined_entries, at_first, outside, gather_units, known_from, known_of}
+use Rattle.settled_types.proofs.Cases.{definition_end, each_end, formals_end, front_end, group_end, indication_end, on_access, on_enumeration, on_front, on_group, on_more, result_end}
 use Rattle.sound_files.proofs.MeantFiles.Lists.{entry_put}
 use Rattle.sound_files.specs.CalledSubs.Called.{sub_numbers}
 
@@ -48,55 +49,71 @@ module _ (sub : ℕ → Type 0) where
   literals_said t n ids c are = are
 
   definition_said : (t : ℕ) (def : Code) (c : Context) → AreSaid c → AreSaid (with_definition t def c)
-  definition_said t (Enumeration literals) c are = literals_said t 0 literals c are
-  definition_said t def c are = are
+  definition_said t = on_enumeration (λ def. (c : Context) → AreSaid c → AreSaid (with_definition t def c))
+      (λ literals c are.
+      literals_said t 0 literals c are)
+      (λ def other c are. rw (definition_end t def c other) (are))
 
   indication_said : (d : ℕ) (i : Code) (c : Context) → AreSaid c → AreSaid (with_indication d i c)
-  indication_said d (Anonymous p constant m) c are = are
-  indication_said d i c are = are
+  indication_said d = on_access (λ i. (c : Context) → AreSaid c → AreSaid (with_indication d i c))
+      (λ p constant m c are.
+      are)
+      (λ i other c are. rw (indication_end d i c other) (are))
 
   objects_said : (constant : Bool) (i : Code) (v : InitialValue) (ids : Code) (c : Context) → AreSaid c → AreSaid (each (with_object constant i v) ids c)
-  objects_said constant i v (More d rest) c are =
-      objects_said constant i v rest (with_object constant i v d c)
+  objects_said constant i v = on_more (λ ids. (c : Context) → AreSaid c → AreSaid (each (with_object constant i v) ids c))
+      (λ d rest next c are.
+      next (with_object constant i v d c)
       (put (declared_number d) (entry.Object (object_info c constant (indicated c.known (declared_number d) i) v)) (with_indication (declared_number d) i c) tt
-      (indication_said (declared_number d) i c are))
-  objects_said constant i v ids c are = are
+      (indication_said (declared_number d) i c are)))
+      (λ ids other c are. rw (each_end (with_object constant i v) ids c other) (are))
 
   numbers_said : (v : InitialValue) (ids : Code) (c : Context) → AreSaid c → AreSaid (each (with_number v) ids c)
-  numbers_said v (More d rest) c are =
-      numbers_said v rest (with_number v d c) (put (declared_number d) (entry.Object (number_info c v)) c tt are)
-  numbers_said v ids c are = are
+  numbers_said v = on_more (λ ids. (c : Context) → AreSaid c → AreSaid (each (with_number v) ids c))
+      (λ d rest next c are.
+      next (with_number v d c) (put (declared_number d) (entry.Object (number_info c v)) c tt are))
+      (λ ids other c are. rw (each_end (with_number v) ids c other) (are))
 
   names_said : (of ids : Code) (c : Context) → AreSaid c → AreSaid (each (with_formal of) ids c)
-  names_said of (More d rest) c are =
-      names_said of rest (with_formal of d c)
+  names_said of = on_more (λ ids. (c : Context) → AreSaid c → AreSaid (each (with_formal of) ids c))
+      (λ d rest next c are.
+      next (with_formal of d c)
       (put (declared_number d) (entry.Object (plain_object (indicated c.known (declared_number d) of) kind.Formal)) (with_indication (declared_number d) of c) tt
-      (indication_said (declared_number d) of c are))
-  names_said of ids c are = are
+      (indication_said (declared_number d) of c are)))
+      (λ ids other c are. rw (each_end (with_formal of) ids c other) (are))
 
   group_said : (group : Code) (c : Context) → AreSaid c → AreSaid (with_formal_group group c)
-  group_said (Formals names m of) c are = names_said of names c are
-  group_said group c are = are
+  group_said = on_group (λ group. (c : Context) → AreSaid c → AreSaid (with_formal_group group c))
+      (λ names m of c are.
+      names_said of names c are)
+      (λ group other c are. rw (group_end group c other) (are))
 
   groups_said : (formals : Code) (c : Context) → AreSaid c → AreSaid (each with_formal_group formals c)
-  groups_said (More group rest) c are = groups_said rest (with_formal_group group c) (group_said group c are)
-  groups_said formals c are = are
+  groups_said = on_more (λ formals. (c : Context) → AreSaid c → AreSaid (each with_formal_group formals c))
+      (λ group rest next c are.
+      next (with_formal_group group c) (group_said group c are))
+      (λ formals other c are. rw (each_end with_formal_group formals c other) (are))
 
   result_said : (d : ℕ) (result : Code) (c : Context) → AreSaid c → AreSaid (with_result d result c)
-  result_said d (More i rest) c are = indication_said d i c are
-  result_said d result c are = are
+  result_said d = on_more (λ result. (c : Context) → AreSaid c → AreSaid (with_result d result c))
+      (λ i rest _ c are.
+      indication_said d i c are)
+      (λ result other c are. rw (result_end d result c other) (are))
 
   front_said : (front : Code) (c : Context) → sub (front_number front) → AreSaid c → AreSaid (with_front front c)
-  front_said (Front d formals result) c is are =
+  front_said = on_front (λ front. (c : Context) → sub (front_number front) → AreSaid c → AreSaid (with_front front c))
+      (λ d formals result c is are.
       let n : ℕ = declared_number d in
       let inner : Context = each with_formal_group formals (with_result n result c) in
       put n (entry.Subprogram (profile inner.known (Front d formals result))) inner is
-      (groups_said formals (with_result n result c) (result_said n result c are))
-  front_said front c is are = are
+      (groups_said formals (with_result n result c) (result_said n result c are)))
+      (λ front other c is are. rw (front_end front c other) (are))
 
   formals_said : (front : Code) (c : Context) → AreSaid c → AreSaid (with_formals front c)
-  formals_said (Front d formals result) c are = groups_said formals c are
-  formals_said front c are = are
+  formals_said = on_front (λ front. (c : Context) → AreSaid c → AreSaid (with_formals front c))
+      (λ d formals result c are.
+      groups_said formals c are)
+      (λ front other c are. rw (formals_end front c other) (are))
 
   body_said : (front : Code) (c : Context) → sub (front_number front) → AreSaid c → AreSaid (with_body_front front c)
   body_said front c is are = by (is_subprogram (entry_of c.known (front_number front)))

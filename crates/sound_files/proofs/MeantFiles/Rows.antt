@@ -16,6 +16,7 @@ use Rattle.machine.specs.type_definitions.Types.{info, full, base}
 use Rattle.machine.specs.type_definitions.Entries.{entry_of, marked}
 use Rattle.machine.specs.type_definitions.Names.{Context}
 use Rattle.machine.specs.type_definitions.Gathered.{gather, each, with_entry, with_type, own_info, with_indication, awaited_info, full_info, subtype_info, meant_by, constrained_shape, bound_pair, is_asked, are_static_bounds, with_literals, with_definition, with_object, constant_value, with_number, initial_value, with_formal, with_formal_group, with_formals, with_result, with_front, with_body_front, is_subprogram, front_number, plain_object, parameter_type, in_subprogram, in_visible, in_hidden, declared_number, declared_pos}
+use Rattle.settled_types.proofs.Cases.{definition_end, each_end, formals_end, front_end, group_end, indication_end, on_access, on_enumeration, on_front, on_group, on_more, result_end}
 use Rattle.sound_files.specs.MeantFiles.Declarations.{Declarations, each_as, literals_of, group_declarations, formal_declarations, front_declarations, body_form, declarations}
 use Rattle.sound_files.proofs.MeantFiles.Lists.{entry_other, row_other}
 use Rattle.sound_files.proofs.MeantFiles.Stays.{Without, Quiet, body_stays, stays}
@@ -38,55 +39,71 @@ module _ (n : ℕ) where
   literals_stay t i ids c = refl
 
   definition_stays : (t : ℕ) (def : Code) (c : Context) → Same (with_definition t def c) c
-  definition_stays t (Enumeration literals) c = literals_stay t 0 literals c
-  definition_stays t def c = refl
+  definition_stays t = on_enumeration (λ def. (c : Context) → Same (with_definition t def c) c)
+      (λ literals c.
+      literals_stay t 0 literals c)
+      (λ def other c. rw (definition_end t def c other) (refl))
 
   -- another number
   away : (new : DeclarationForm) (d : ℕ) (L : Declarations) → Without n ((new, d) ∷ L) → n ≡ d → ⊥
   away new d L never same = never new (inl (ap (λ m. (new, m)) (sym same)))
 
   indication_stays : (d : ℕ) (i : Code) (c : Context) → (n ≡ d → ⊥) → Same (with_indication d i c) c
-  indication_stays d (Anonymous p constant m) c other = row_other c.known.table d n (own_info (shape.Access (marked c.known m) constant false) d) other
-  indication_stays d i c other = refl
+  indication_stays d = on_access (λ i. (c : Context) → (n ≡ d → ⊥) → Same (with_indication d i c) c)
+      (λ p constant m c other.
+      row_other c.known.table d n (own_info (shape.Access (marked c.known m) constant false) d) other)
+      (λ i another c other. rw (indication_end d i c another) (refl))
 
   pub objects_stay : (constant : Bool) (i : Code) (v : InitialValue) (ids : Code) (c : Context) → Without n (each_as form.Object ids) → Same (each (with_object constant i v) ids c) c
-  objects_stay constant i v (More d more) c never =
-      objects_stay constant i v more (with_object constant i v d c) (rest (form.Object, declared_number d) (each_as form.Object more) never)
-      ∙ indication_stays (declared_number d) i c (away form.Object (declared_number d) (each_as form.Object more) never)
-  objects_stay constant i v ids c never = refl
+  objects_stay constant i v = on_more (λ ids. (c : Context) → Without n (each_as form.Object ids) → Same (each (with_object constant i v) ids c) c)
+      (λ d more next c never.
+      next (with_object constant i v d c) (rest (form.Object, declared_number d) (each_as form.Object more) never)
+      ∙ indication_stays (declared_number d) i c (away form.Object (declared_number d) (each_as form.Object more) never))
+      (λ ids other c never. rw (each_end (with_object constant i v) ids c other) (refl))
 
   numbers_stay : (v : InitialValue) (ids : Code) (c : Context) → Same (each (with_number v) ids c) c
-  numbers_stay v (More d more) c = numbers_stay v more (with_number v d c)
-  numbers_stay v ids c = refl
+  numbers_stay v = on_more (λ ids. (c : Context) → Same (each (with_number v) ids c) c)
+      (λ d more next c.
+      next (with_number v d c))
+      (λ ids other c. rw (each_end (with_number v) ids c other) (refl))
 
   pub names_stay : (of ids : Code) (c : Context) → Without n (each_as form.Formal ids) → Same (each (with_formal of) ids c) c
-  names_stay of (More d more) c never =
-      names_stay of more (with_formal of d c) (rest (form.Formal, declared_number d) (each_as form.Formal more) never)
-      ∙ indication_stays (declared_number d) of c (away form.Formal (declared_number d) (each_as form.Formal more) never)
-  names_stay of ids c never = refl
+  names_stay of = on_more (λ ids. (c : Context) → Without n (each_as form.Formal ids) → Same (each (with_formal of) ids c) c)
+      (λ d more next c never.
+      next (with_formal of d c) (rest (form.Formal, declared_number d) (each_as form.Formal more) never)
+      ∙ indication_stays (declared_number d) of c (away form.Formal (declared_number d) (each_as form.Formal more) never))
+      (λ ids other c never. rw (each_end (with_formal of) ids c other) (refl))
 
   group_stays : (group : Code) (c : Context) → Without n (group_declarations group) → Same (with_formal_group group c) c
-  group_stays (Formals names m of) c never = names_stay of names c never
-  group_stays group c never = refl
+  group_stays = on_group (λ group. (c : Context) → Without n (group_declarations group) → Same (with_formal_group group c) c)
+      (λ names m of c never.
+      names_stay of names c never)
+      (λ group other c never. rw (group_end group c other) (refl))
 
   pub groups_stay : (formals : Code) (c : Context) → Without n (formal_declarations formals) → Same (each with_formal_group formals c) c
-  groups_stay (More group more) c never =
-      groups_stay more (with_formal_group group c) (right (group_declarations group) (formal_declarations more) never)
-      ∙ group_stays group c (left (group_declarations group) (formal_declarations more) never)
-  groups_stay formals c never = refl
+  groups_stay = on_more (λ formals. (c : Context) → Without n (formal_declarations formals) → Same (each with_formal_group formals c) c)
+      (λ group more next c never.
+      next (with_formal_group group c) (right (group_declarations group) (formal_declarations more) never)
+      ∙ group_stays group c (left (group_declarations group) (formal_declarations more) never))
+      (λ formals other c never. rw (each_end with_formal_group formals c other) (refl))
 
   result_stays : (d : ℕ) (result : Code) (c : Context) → (n ≡ d → ⊥) → Same (with_result d result c) c
-  result_stays d (More i more) c other = indication_stays d i c other
-  result_stays d result c other = refl
+  result_stays d = on_more (λ result. (c : Context) → (n ≡ d → ⊥) → Same (with_result d result c) c)
+      (λ i more _ c other.
+      indication_stays d i c other)
+      (λ result another c other. rw (result_end d result c another) (refl))
 
   front_stays : (front : Code) (c : Context) → (n ≡ front_number front → ⊥) → Without n (front_declarations front) → Same (with_front front c) c
-  front_stays (Front d formals result) c other never =
-      groups_stay formals (with_result (declared_number d) result c) never ∙ result_stays (declared_number d) result c other
-  front_stays front c other never = refl
+  front_stays = on_front (λ front. (c : Context) → (n ≡ front_number front → ⊥) → Without n (front_declarations front) → Same (with_front front c) c)
+      (λ d formals result c other never.
+      groups_stay formals (with_result (declared_number d) result c) never ∙ result_stays (declared_number d) result c other)
+      (λ front another c other never. rw (front_end front c another) (refl))
 
   formals_stay : (front : Code) (c : Context) → Without n (front_declarations front) → Same (with_formals front c) c
-  formals_stay (Front d formals result) c never = groups_stay formals c never
-  formals_stay front c never = refl
+  formals_stay = on_front (λ front. (c : Context) → Without n (front_declarations front) → Same (with_formals front c) c)
+      (λ d formals result c never.
+      groups_stay formals c never)
+      (λ front other c never. rw (formals_end front c other) (refl))
 
   -- ---- where bodies alone declare it, of a subprogram that is known
 

@@ -14,6 +14,7 @@ use Rattle.machine.specs.type_definitions.declared.table.Entry.TheVariants as en
 use Rattle.machine.specs.type_definitions.Entries.{entry_of}
 use Rattle.machine.specs.type_definitions.Names.{Context}
 use Rattle.machine.specs.type_definitions.Gathered.{gather, each, with_entry, with_type, with_indication, full_info, with_literals, with_definition, with_object, object_info, constant_value, indicated, with_number, number_info, initial_value, with_formal, with_formal_group, with_formals, with_result, with_front, with_body_front, profile, is_subprogram, front_number, plain_object, parameter_type, in_subprogram, in_visible, in_hidden, instance_type, declared_number}
+use Rattle.settled_types.proofs.Cases.{definition_end, each_end, formals_end, front_end, group_end, indication_end, on_access, on_enumeration, on_front, on_group, on_more, result_end}
 use Rattle.sound_files.specs.MeantFiles.Declarations.{Declarations, each_as, literals_of, group_declarations, formal_declarations, front_declarations, body_form, declarations}
 use Rattle.sound_files.proofs.MeantFiles.Lists.{entry_other}
 
@@ -52,61 +53,76 @@ module _ (n : ℕ) where
     literals_stay t i ids c quiet is = is
 
     definition_stays : (t : ℕ) (def : Code) (c : Context) → Quiet (literals_of def) → Is c → Is (with_definition t def c)
-    definition_stays t (Enumeration literals) c quiet is = literals_stay t 0 literals c quiet is
-    definition_stays t def c quiet is = is
+    definition_stays t = on_enumeration (λ def. (c : Context) → Quiet (literals_of def) → Is c → Is (with_definition t def c))
+        (λ literals c quiet is.
+        literals_stay t 0 literals c quiet is)
+        (λ def other c quiet is. rw (definition_end t def c other) (is))
 
     indication_stays : (d : ℕ) (i : Code) (c : Context) → Is c → Is (with_indication d i c)
-    indication_stays d (Anonymous p constant m) c is = is
-    indication_stays d i c is = is
+    indication_stays d = on_access (λ i. (c : Context) → Is c → Is (with_indication d i c))
+        (λ p constant m c is.
+        is)
+        (λ i other c is. rw (indication_end d i c other) (is))
 
     pub objects_stay : (constant : Bool) (i : Code) (v : InitialValue) (ids : Code) (c : Context) → Quiet (each_as form.Object ids) → Is c → Is (each (with_object constant i v) ids c)
-    objects_stay constant i v (More d more) c quiet is =
+    objects_stay constant i v = on_more (λ ids. (c : Context) → Quiet (each_as form.Object ids) → Is c → Is (each (with_object constant i v) ids c))
+        (λ d more next c quiet is.
         let m : ℕ = declared_number d in
-        objects_stay constant i v more (with_object constant i v d c) (rest (form.Object, m) (each_as form.Object more) quiet)
+        next (with_object constant i v d c) (rest (form.Object, m) (each_as form.Object more) quiet)
         (put form.Object m (each_as form.Object more) (entry.Object (object_info c constant (indicated c.known m i) v)) (with_indication m i c) refl quiet
-        (indication_stays m i c is))
-    objects_stay constant i v ids c quiet is = is
+        (indication_stays m i c is)))
+        (λ ids other c quiet is. rw (each_end (with_object constant i v) ids c other) (is))
 
     pub numbers_stay : (v : InitialValue) (ids : Code) (c : Context) → Quiet (each_as form.Object ids) → Is c → Is (each (with_number v) ids c)
-    numbers_stay v (More d more) c quiet is =
+    numbers_stay v = on_more (λ ids. (c : Context) → Quiet (each_as form.Object ids) → Is c → Is (each (with_number v) ids c))
+        (λ d more next c quiet is.
         let m : ℕ = declared_number d in
-        numbers_stay v more (with_number v d c) (rest (form.Object, m) (each_as form.Object more) quiet)
-        (put form.Object m (each_as form.Object more) (entry.Object (number_info c v)) c refl quiet is)
-    numbers_stay v ids c quiet is = is
+        next (with_number v d c) (rest (form.Object, m) (each_as form.Object more) quiet)
+        (put form.Object m (each_as form.Object more) (entry.Object (number_info c v)) c refl quiet is))
+        (λ ids other c quiet is. rw (each_end (with_number v) ids c other) (is))
 
     result_stays : (d : ℕ) (result : Code) (c : Context) → Is c → Is (with_result d result c)
-    result_stays d (More i more) c is = indication_stays d i c is
-    result_stays d result c is = is
+    result_stays d = on_more (λ result. (c : Context) → Is c → Is (with_result d result c))
+        (λ i more _ c is.
+        indication_stays d i c is)
+        (λ result other c is. rw (result_end d result c other) (is))
 
     pub names_stay : (of ids : Code) (c : Context) → Quiet (each_as form.Formal ids) → Is c → Is (each (with_formal of) ids c)
-    names_stay of (More d more) c quiet is =
+    names_stay of = on_more (λ ids. (c : Context) → Quiet (each_as form.Formal ids) → Is c → Is (each (with_formal of) ids c))
+        (λ d more next c quiet is.
         let m : ℕ = declared_number d in
-        names_stay of more (with_formal of d c) (rest (form.Formal, m) (each_as form.Formal more) quiet)
+        next (with_formal of d c) (rest (form.Formal, m) (each_as form.Formal more) quiet)
         (put form.Formal m (each_as form.Formal more) (entry.Object (plain_object (indicated c.known m of) kind.Formal)) (with_indication m of c) refl quiet
-        (indication_stays m of c is))
-    names_stay of ids c quiet is = is
+        (indication_stays m of c is)))
+        (λ ids other c quiet is. rw (each_end (with_formal of) ids c other) (is))
 
     pub group_stays : (group : Code) (c : Context) → Quiet (group_declarations group) → Is c → Is (with_formal_group group c)
-    group_stays (Formals names m of) c quiet is = names_stay of names c quiet is
-    group_stays group c quiet is = is
+    group_stays = on_group (λ group. (c : Context) → Quiet (group_declarations group) → Is c → Is (with_formal_group group c))
+        (λ names m of c quiet is.
+        names_stay of names c quiet is)
+        (λ group other c quiet is. rw (group_end group c other) (is))
 
     pub groups_stay : (formals : Code) (c : Context) → Quiet (formal_declarations formals) → Is c → Is (each with_formal_group formals c)
-    groups_stay (More group more) c quiet is =
-        groups_stay more (with_formal_group group c) (right (group_declarations group) (formal_declarations more) quiet)
-        (group_stays group c (left (group_declarations group) (formal_declarations more) quiet) is)
-    groups_stay formals c quiet is = is
+    groups_stay = on_more (λ formals. (c : Context) → Quiet (formal_declarations formals) → Is c → Is (each with_formal_group formals c))
+        (λ group more next c quiet is.
+        next (with_formal_group group c) (right (group_declarations group) (formal_declarations more) quiet)
+        (group_stays group c (left (group_declarations group) (formal_declarations more) quiet) is))
+        (λ formals other c quiet is. rw (each_end with_formal_group formals c other) (is))
 
     front_stays : (front : Code) (c : Context) → Quiet (front_declarations front) → (n ≡ front_number front → ⊥) → Is c → Is (with_front front c)
-    front_stays (Front d formals result) c quiet never is =
+    front_stays = on_front (λ front. (c : Context) → Quiet (front_declarations front) → (n ≡ front_number front → ⊥) → Is c → Is (with_front front c))
+        (λ d formals result c quiet never is.
         let m : ℕ = declared_number d in
         let inner : Context = each with_formal_group formals (with_result m result c) in
         entry_other inner.known.entries m n (entry.Subprogram (profile inner.known (Front d formals result))) entry.Nothing never
-        ∙ groups_stay formals (with_result m result c) quiet (result_stays m result c is)
-    front_stays front c quiet never is = is
+        ∙ groups_stay formals (with_result m result c) quiet (result_stays m result c is))
+        (λ front other c quiet never is. rw (front_end front c other) (is))
 
     formals_stay : (front : Code) (c : Context) → Quiet (front_declarations front) → Is c → Is (with_formals front c)
-    formals_stay (Front d formals result) c quiet is = groups_stay formals c quiet is
-    formals_stay front c quiet is = is
+    formals_stay = on_front (λ front. (c : Context) → Quiet (front_declarations front) → Is c → Is (with_formals front c))
+        (λ d formals result c quiet is.
+        groups_stay formals c quiet is)
+        (λ front other c quiet is. rw (formals_end front c other) (is))
 
     pub body_stays : (front : Code) (L : Declarations) (c : Context) → Quiet ((body_form front, front_number front) ∷ (front_declarations front ++ L)) → Is c
         → Is (with_body_front front c)

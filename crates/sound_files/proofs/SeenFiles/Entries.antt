@@ -12,6 +12,7 @@ use Rattle.machine.specs.type_definitions.Entries.{entry_of}
 use Rattle.machine.specs.type_definitions.Names.{Context}
 use Rattle.machine.specs.type_definitions.Gathered.{gather, each, with_entry, with_type, with_indication, full_info, with_literals, with_definition, with_object, object_info, constant_value, indicated, with_number, number_info, initial_value, with_formal, with_formal_group, with_formals, with_result, with_front, with_body_front, profile, is_subprogram, front_number, plain_object, parameter_type, in_subprogram, in_visible, in_hidden, instance_type, declared_number}
 use Rattle.machine.specs.type_definitions.Whole.{predefined_entries, at_first, outside, gather_units, known_from, known_of}
+use Rattle.settled_types.proofs.Cases.{definition_end, each_end, formals_end, front_end, group_end, indication_end, on_access, on_enumeration, on_front, on_group, on_more, result_end}
 use Rattle.sound_files.specs.SeenFiles.Fits.{all_numbers, group_numbers, formal_numbers, front_numbers, scope_after, unit_scope, AreObjects, Fits, AreFitting, IsFitting, UnitFits, AllFit}
 
 abbrev pub is_object_entry : Entry → Bool
@@ -43,18 +44,23 @@ module _ (object : ℕ → Type 0) where
   literals_keep t n ids c keeps = keeps
 
   definition_keeps : (t : ℕ) (def : Code) (c : Context) → Keeps object c → Keeps object (with_definition t def c)
-  definition_keeps t (Enumeration literals) c keeps = literals_keep t 0 literals c keeps
-  definition_keeps t def c keeps = keeps
+  definition_keeps t = on_enumeration (λ def. (c : Context) → Keeps object c → Keeps object (with_definition t def c))
+      (λ literals c keeps.
+      literals_keep t 0 literals c keeps)
+      (λ def other c keeps. rw (definition_end t def c other) (keeps))
 
   indication_keeps : (d : ℕ) (i : Code) (c : Context) → Keeps object c → Keeps object (with_indication d i c)
-  indication_keeps d (Anonymous p constant m) c keeps = keeps
-  indication_keeps d i c keeps = keeps
+  indication_keeps d = on_access (λ i. (c : Context) → Keeps object c → Keeps object (with_indication d i c))
+      (λ p constant m c keeps.
+      keeps)
+      (λ i other c keeps. rw (indication_end d i c other) (keeps))
 
   each_keeps : (f : Code → Context → Context) → ((a : Code) (c : Context) → object (declared_number a) → Keeps object c → Keeps object (f a c)) → (ids : Code)
       (c : Context) → AreObjects object (all_numbers ids) → Keeps object c → Keeps object (each f ids c)
-  each_keeps f one (More a rest) c are keeps =
-      each_keeps f one rest (f a c) (λ n has. are n (inr has)) (one a c (are (declared_number a) (inl refl)) keeps)
-  each_keeps f one ids c are keeps = keeps
+  each_keeps f one = on_more (λ ids. (c : Context) → AreObjects object (all_numbers ids) → Keeps object c → Keeps object (each f ids c))
+      (λ a rest next c are keeps.
+      next (f a c) (λ n has. are n (inr has)) (one a c (are (declared_number a) (inl refl)) keeps))
+      (λ ids other c are keeps. rw (each_end f ids c other) (keeps))
 
   object_keeps : (constant : Bool) (i : Code) (v : InitialValue) (d : Code) (c : Context) → object (declared_number d) → Keeps object c
       → Keeps object (with_object constant i v d c)
@@ -63,8 +69,10 @@ module _ (object : ℕ → Type 0) where
       (λ e. is) (indication_keeps (declared_number d) i c keeps)
 
   result_keeps : (d : ℕ) (result : Code) (c : Context) → Keeps object c → Keeps object (with_result d result c)
-  result_keeps d (More i rest) c keeps = indication_keeps d i c keeps
-  result_keeps d result c keeps = keeps
+  result_keeps d = on_more (λ result. (c : Context) → Keeps object c → Keeps object (with_result d result c))
+      (λ i rest _ c keeps.
+      indication_keeps d i c keeps)
+      (λ result other c keeps. rw (result_end d result c other) (keeps))
 
   formal_keeps : (of d : Code) (c : Context) → object (declared_number d) → Keeps object c → Keeps object (with_formal of d c)
   formal_keeps of d c is keeps =
@@ -72,26 +80,32 @@ module _ (object : ℕ → Type 0) where
       (λ e. is) (indication_keeps (declared_number d) of c keeps)
 
   group_keeps : (g : Code) (c : Context) → AreObjects object (group_numbers g) → Keeps object c → Keeps object (with_formal_group g c)
-  group_keeps (Formals ids m of) c are keeps = each_keeps (with_formal of) (λ d c is keeps. formal_keeps of d c is keeps) ids c are keeps
-  group_keeps g c are keeps = keeps
+  group_keeps = on_group (λ g. (c : Context) → AreObjects object (group_numbers g) → Keeps object c → Keeps object (with_formal_group g c))
+      (λ ids m of c are keeps.
+      each_keeps (with_formal of) (λ d c is keeps. formal_keeps of d c is keeps) ids c are keeps)
+      (λ g other c are keeps. rw (group_end g c other) (keeps))
 
   groups_keep : (formals : Code) (c : Context) → AreObjects object (formal_numbers formals) → Keeps object c → Keeps object (each with_formal_group formals c)
-  groups_keep (More g rest) c are keeps =
-      groups_keep rest (with_formal_group g c) (λ n has. are n (Has-append_right (group_numbers g) (formal_numbers rest) n has))
-      (group_keeps g c (λ n has. are n (Has-append_left (group_numbers g) (formal_numbers rest) n has)) keeps)
-  groups_keep formals c are keeps = keeps
+  groups_keep = on_more (λ formals. (c : Context) → AreObjects object (formal_numbers formals) → Keeps object c → Keeps object (each with_formal_group formals c))
+      (λ g rest next c are keeps.
+      next (with_formal_group g c) (λ n has. are n (Has-append_right (group_numbers g) (formal_numbers rest) n has))
+      (group_keeps g c (λ n has. are n (Has-append_left (group_numbers g) (formal_numbers rest) n has)) keeps))
+      (λ formals other c are keeps. rw (each_end with_formal_group formals c other) (keeps))
 
   front_keeps : (front : Code) (c : Context) → AreObjects object (front_numbers front) → Keeps object c → Keeps object (with_front front c)
-  front_keeps (Front d formals result) c are keeps =
+  front_keeps = on_front (λ front. (c : Context) → AreObjects object (front_numbers front) → Keeps object c → Keeps object (with_front front c))
+      (λ d formals result c are keeps.
       let n : ℕ = declared_number d in
       let inner : Context = each with_formal_group formals (with_result n result c) in
       put n (entry.Subprogram (profile inner.known (Front d formals result))) inner other
-      (groups_keep formals (with_result n result c) are (result_keeps n result c keeps))
-  front_keeps front c are keeps = keeps
+      (groups_keep formals (with_result n result c) are (result_keeps n result c keeps)))
+      (λ front another c are keeps. rw (front_end front c another) (keeps))
 
   formals_keep : (front : Code) (c : Context) → AreObjects object (front_numbers front) → Keeps object c → Keeps object (with_formals front c)
-  formals_keep (Front d formals result) c are keeps = groups_keep formals c are keeps
-  formals_keep front c are keeps = keeps
+  formals_keep = on_front (λ front. (c : Context) → AreObjects object (front_numbers front) → Keeps object c → Keeps object (with_formals front c))
+      (λ d formals result c are keeps.
+      groups_keep formals c are keeps)
+      (λ front other c are keeps. rw (formals_end front c other) (keeps))
 
   body_keeps : (front : Code) (c : Context) → AreObjects object (front_numbers front) → Keeps object c → Keeps object (with_body_front front c)
   body_keeps front c are keeps = by (is_subprogram (entry_of c.known (front_number front)))

@@ -15,6 +15,7 @@ use Rattle.machine.specs.flow_paths.Points.{Place, PointName, row_at, NamedPoint
 use Rattle.machine.specs.flow_paths.Prep.{Setting, with_held, prep}
 use Rattle.machine.specs.flow_paths.Layout.{Around, within_loop, within_block, with_scope, declared, from, ending, ends, closing, uses, uses_both, uses_second_first, choices_of, laid, laid_branches, laid_branch, laid_whens, laid_when}
 use Rattle.machine.specs.flow_paths.Laid.{around_body, body_points, sub_points, procedure_end, function_end, elaboration_points}
+use Rattle.settled_types.proofs.TypedCases.{Laws, branch_none, branches_none, laid_none, on_code, when_none, whens_none}
 use Rattle.settled_types.proofs.OrderLaws.ScopeLaws.Lists.{all_both, all_one, all_has, all_if, has_reverse}
 
 -- What steps are asked. `closes` says of which objects the scopes may end.
@@ -184,71 +185,79 @@ module _ (asked : Instruction → Type 0) (closes : ℕ → Type 0) (asks : Asks
         let ends = ending_closes c all in
         (all_both closes (ending s c) w.in_loop ends around.0, all_both closes (ending s c) w.in_all ends around.1)
 
-    mutual
-      unfolding laid laid_branches laid_branch laid_whens laid_when Uses EachUse
-
-      pub laid_asked : (c : TypedCode) (at : Place) (w : Around) (k : List PointName) → Closes w → Uses asked closes c → Asked (laid s c at w k)
-      laid_asked (typed.More a rest) at w k around uses =
+    laid_asked_cases : Laws (λ c. (at : Place) → (w : Around) → (k : List PointName) → Closes w → Uses asked closes c → Asked (laid s c at w k))
+        (λ c. (at : Place) → (w : Around) → (k : List PointName) → (otherwise : List PointName) → Closes w → EachUse asked closes c → Asked (laid_branches s c at w k otherwise))
+        (λ c. (at : Place) → (w : Around) → (k : List PointName) → (otherwise : List PointName) → Closes w → Uses asked closes c → Asked (laid_branch s c at w k otherwise))
+        (λ c. (at : Place) → (w : Around) → (k : List PointName) → Closes w → EachUse asked closes c → AllByRecursion Asked (laid_whens s c at w k))
+        (λ c. (at : Place) → (w : Around) → (k : List PointName) → Closes w → Uses asked closes c → Asked (laid_when s c at w k))
+    unfolding laid laid_branches laid_branch laid_whens laid_when Uses EachUse
+    laid_asked_cases = record {
+      list = λ a rest by_a by_rest at w k around uses.
           let behind : List NamedPoint = laid s rest (1 ∷ at) (with_scope (declared a) w) k in
-          both (laid s a (0 ∷ at) w (entry behind k)) behind (laid_asked a (0 ∷ at) w (entry behind k) around uses.0)
-          (laid_asked rest (1 ∷ at) (with_scope (declared a) w) k around uses.1)
-      laid_asked (Declare p x v) at w k around uses = used at p v (instruction.Declare x v) w k uses.1 uses.0
-      laid_asked (Assign p target e) at w k around uses = used_second at p target e (instruction.Assign target e) w k uses.1 uses.2 uses.0
-      laid_asked (Skip p) at w k around uses = (asks.skip, tt)
-      laid_asked (typed.Call p sub actuals) at w k around uses = used at p actuals (instruction.Call sub actuals None) w k uses.1 uses.0
-      laid_asked (Output p text line) at w k around uses = used at p text (instruction.Output text line) w k uses.1 uses.0
-      laid_asked (Input p target) at w k around uses = used at p target (instruction.Input target) w k uses.1 uses.0
-      laid_asked (Release p m) at w k around uses = used at p m (instruction.Release m) w k uses.1 uses.0
-      laid_asked (If branches otherwise) at w k around uses =
+          both (laid s a (0 ∷ at) w (entry behind k)) behind (by_a (0 ∷ at) w (entry behind k) around uses.0)
+          (by_rest (1 ∷ at) (with_scope (declared a) w) k around uses.1);
+      declare = λ p x v at w k around uses.
+          used at p v (instruction.Declare x v) w k uses.1 uses.0;
+      assign = λ p target e at w k around uses.
+          used_second at p target e (instruction.Assign target e) w k uses.1 uses.2 uses.0;
+      skip = λ p at w k around uses.
+          (asks.skip, tt);
+      call = λ p sub actuals at w k around uses.
+          used at p actuals (instruction.Call sub actuals None) w k uses.1 uses.0;
+      output = λ p text line at w k around uses.
+          used at p text (instruction.Output text line) w k uses.1 uses.0;
+      input = λ p target at w k around uses.
+          used at p target (instruction.Input target) w k uses.1 uses.0;
+      release = λ p m at w k around uses.
+          used at p m (instruction.Release m) w k uses.1 uses.0;
+      choice = λ branches otherwise by_branches by_otherwise at w k around uses.
           let behind : List NamedPoint = laid s otherwise (1 ∷ at) w k in
-          both (laid_branches s branches (0 ∷ at) w k (entry behind k)) behind (branches_asked branches (0 ∷ at) w k (entry behind k) around uses.0)
-          (laid_asked otherwise (1 ∷ at) w k around uses.1)
-      laid_asked (Case p e whens) at w k around uses =
+          both (laid_branches s branches (0 ∷ at) w k (entry behind k)) behind (by_branches (0 ∷ at) w k (entry behind k) around uses.0)
+          (by_otherwise (1 ∷ at) w k around uses.1);
+      cases = λ p e whens by_whens at w k around uses.
           let behind : List (List NamedPoint) = laid_whens s whens (1 ∷ at) w k in
           both _ (flat_map (λ ps. ps) behind) (used at p e (instruction.Choose e (choices_of whens)) w (flat_map (λ ps. entry ps k) behind) uses.1 uses.0)
-          (joined behind (whens_asked whens (1 ∷ at) w k around uses.2))
-      laid_asked (Loop stmts) at w k around uses =
-          laid_asked stmts (0 ∷ at) (within_loop k w) (entry (laid s stmts (0 ∷ at) (within_loop k w) k) k) (tt, around.1) uses
-      laid_asked (While p e stmts) at w k around uses =
+          (joined behind (by_whens (1 ∷ at) w k around uses.2));
+      loop = λ stmts by_stmts at w k around uses.
+          by_stmts (0 ∷ at) (within_loop k w) (entry (laid s stmts (0 ∷ at) (within_loop k w) k) k) (tt, around.1) uses;
+      while = λ p e stmts by_stmts at w k around uses.
           let turn : List PointName = entry (prep s e (0 ∷ at) w.scope (row_at at 0 ∷ [])) (row_at at 0 ∷ []) in
           let inner : List NamedPoint = laid s stmts (1 ∷ at) (within_loop k w) turn in
           both _ inner (used at p e (instruction.Test e) w (entry inner turn ++ k) uses.1 uses.0)
-          (laid_asked stmts (1 ∷ at) (within_loop k w) turn (tt, around.1) uses.2)
-      laid_asked (For p x reversed low high stmts) at w k around uses =
+          (by_stmts (1 ∷ at) (within_loop k w) turn (tt, around.1) uses.2);
+      for = λ p x reversed low high stmts by_stmts at w k around uses.
           both (uses_both s at p low high (instruction.Start x reversed low high) w (row_at at 1 ∷ [])) _
           (used_both at p low high (instruction.Start x reversed low high) w (row_at at 1 ∷ []) uses.2 uses.3 uses.0)
-          (uses.1, laid_asked stmts (2 ∷ at) (with_scope (x ∷ []) (within_loop k w)) (row_at at 1 ∷ []) (tt, around.1) uses.4)
-      laid_asked (Exit p e) at w k around uses =
-          both _ (ends at 1 p w.in_loop w.scope w.leave) (used at p e (instruction.LeaveLoop e) w _ uses.1 uses.0) (ends_asked at 1 p w.in_loop w.scope w.leave around.0)
-      laid_asked (Return p v) at w k around uses =
-          both _ (closing at 1 p w) (used at p v (instruction.Hold v) w _ uses.1 uses.0) (closing_asked at 1 p w around.1)
-      laid_asked (Block n stmts end) at w k around uses =
+          (uses.1, by_stmts (2 ∷ at) (with_scope (x ∷ []) (within_loop k w)) (row_at at 1 ∷ []) (tt, around.1) uses.4);
+      exit = λ p e at w k around uses.
+          both _ (ends at 1 p w.in_loop w.scope w.leave) (used at p e (instruction.LeaveLoop e) w _ uses.1 uses.0) (ends_asked at 1 p w.in_loop w.scope w.leave around.0);
+      return = λ p v at w k around uses.
+          both _ (closing at 1 p w) (used at p v (instruction.Hold v) w _ uses.1 uses.0) (closing_asked at 1 p w around.1);
+      block = λ n stmts end by_stmts at w k around uses.
           let out : List NamedPoint = ends at 0 end (ending s stmts) (reverse (declared stmts) ++ w.scope) k in
           both (laid s stmts (0 ∷ at) (within_block (ending s stmts) w) (entry out k)) out
-          (laid_asked stmts (0 ∷ at) (within_block (ending s stmts) w) (entry out k) (block_closes stmts w uses.0 around) uses.1)
-          (ends_asked at 0 end (ending s stmts) _ k (ending_closes stmts uses.0))
-      laid_asked _ at w k around uses = tt
-
-      branches_asked : (c : TypedCode) (at : Place) (w : Around) (k otherwise : List PointName) → Closes w → EachUse asked closes c → Asked (laid_branches s c at w k otherwise)
-      branches_asked (typed.More a rest) at w k otherwise around uses =
+          (by_stmts (0 ∷ at) (within_block (ending s stmts) w) (entry out k) (block_closes stmts w uses.0 around) uses.1)
+          (ends_asked at 0 end (ending s stmts) _ k (ending_closes stmts uses.0));
+      others = λ c other at w k around uses. rw (laid_none s c at w k other) (tt);
+      branches = λ a rest by_a by_rest at w k otherwise around uses.
           let behind : List NamedPoint = laid_branches s rest (1 ∷ at) w k otherwise in
-          both (laid_branch s a (0 ∷ at) w k (entry behind otherwise)) behind (branch_asked a (0 ∷ at) w k (entry behind otherwise) around uses.0)
-          (branches_asked rest (1 ∷ at) w k otherwise around uses.1)
-      branches_asked _ at w k otherwise around uses = tt
-
-      branch_asked : (c : TypedCode) (at : Place) (w : Around) (k otherwise : List PointName) → Closes w → Uses asked closes c → Asked (laid_branch s c at w k otherwise)
-      branch_asked (Branch p e stmts) at w k otherwise around uses =
+          both (laid_branch s a (0 ∷ at) w k (entry behind otherwise)) behind (by_a (0 ∷ at) w k (entry behind otherwise) around uses.0)
+          (by_rest (1 ∷ at) w k otherwise around uses.1);
+      no_branches = λ c other at w k otherwise around uses. rw (branches_none s c at w k otherwise other) (tt);
+      branch = λ p e stmts by_stmts at w k otherwise around uses.
           let inner : List NamedPoint = laid s stmts (1 ∷ at) w k in
-          both _ inner (used at p e (instruction.Test e) w (entry inner k ++ otherwise) uses.1 uses.0) (laid_asked stmts (1 ∷ at) w k around uses.2)
-      branch_asked _ at w k otherwise around uses = tt
+          both _ inner (used at p e (instruction.Test e) w (entry inner k ++ otherwise) uses.1 uses.0) (by_stmts (1 ∷ at) w k around uses.2);
+      no_branch = λ c other at w k otherwise around uses. rw (branch_none s c at w k otherwise other) (tt);
+      alternatives = λ a rest by_a by_rest at w k around uses.
+          (by_a (0 ∷ at) w k around uses.0, by_rest (1 ∷ at) w k around uses.1);
+      no_alternatives = λ c other at w k around uses. rw (whens_none s c at w k other) (tt);
+      alternative = λ choices stmts by_stmts at w k around uses.
+          by_stmts (1 ∷ at) w k around uses;
+      no_alternative = λ c other at w k around uses. rw (when_none s c at w k other) (tt);
+    }
 
-      whens_asked : (c : TypedCode) (at : Place) (w : Around) (k : List PointName) → Closes w → EachUse asked closes c → AllByRecursion Asked (laid_whens s c at w k)
-      whens_asked (typed.More a rest) at w k around uses = (when_asked a (0 ∷ at) w k around uses.0, whens_asked rest (1 ∷ at) w k around uses.1)
-      whens_asked _ at w k around uses = tt
-
-      when_asked : (c : TypedCode) (at : Place) (w : Around) (k : List PointName) → Closes w → Uses asked closes c → Asked (laid_when s c at w k)
-      when_asked (When choices stmts) at w k around uses = laid_asked stmts (1 ∷ at) w k around uses
-      when_asked _ at w k around uses = tt
+    pub laid_asked : (c : TypedCode) (at : Place) (w : Around) (k : List PointName) → Closes w → Uses asked closes c → Asked (laid s c at w k)
+    laid_asked = on_code laid_asked_cases
 
     -- ---- subprograms
 

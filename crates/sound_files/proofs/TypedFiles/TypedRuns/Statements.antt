@@ -26,6 +26,7 @@ use Rattle.machine.specs.typed_tree.Expressions.{Site, typed_expression, typed_o
 use Rattle.machine.specs.typed_tree.Statements.{type_read, typed_object, returned_type}
 use Rattle.machine.specs.flow_paths.Objects.{Typing, Signature}
 use Rattle.machine.specs.flow_paths.Objects as flow
+use Rattle.settled_types.proofs.Cases.{items_end, on_more}
 use Rattle.soundness.specs.TypedLaws.Fine.{Has, Laws, IsMeant}
 use Rattle.soundness.proofs.TypedLaws.Agreeing.{holds, and_left, nil_left, nil_right, is_free}
 use Rattle.soundness.proofs.TypedLaws.Assigns as assigns
@@ -73,9 +74,10 @@ module _ (s : Site) (objects : List Object) (subs : List Signature) (made : ℕ 
     each_typed : (ids i : Code) (v : TypedTree) (t : ℕ) → AreDeclared s y made i ids → ((d : ℕ) → indicated known d i ≡ t) → TakenWithin y t v
         → AreTyped (map (typed_object s v) (code_items ids))
     unfolding IsTypedCode
-    each_typed (More d rest) i v t h is source =
-        ((subst (λ x. FirstTaken y x v) (sym (h.0 ∙ is (declared_number d))) source.0, subst (λ x. FirstWithin y x v) (sym (h.0 ∙ is (declared_number d))) source.1), each_typed rest i v t h.2 is source)
-    each_typed ids i v t h is source = tt
+    each_typed = on_more (λ ids. (i : Code) → (v : TypedTree) → (t : ℕ) → AreDeclared s y made i ids → ((d : ℕ) → indicated known d i ≡ t) → TakenWithin y t v → AreTyped (map (typed_object s v) (code_items ids)))
+        (λ d rest next i v t h is source.
+        ((subst (λ x. FirstTaken y x v) (sym (h.0 ∙ is (declared_number d))) source.0, subst (λ x. FirstWithin y x v) (sym (h.0 ∙ is (declared_number d))) source.1), next i v t h.2 is source))
+        (λ ids other i v t h is source. rw (items_end ids other) (tt))
 
     one_typed : (ids i : Code) (v : TypedTree) → is_single ids ≡ true → AreDeclared s y made i ids → TakenWithin y (indicated known (first_number ids) i) v
         → AreTyped (map (typed_object s v) (code_items ids))
@@ -85,8 +87,10 @@ module _ (s : Site) (objects : List Object) (subs : List Signature) (made : ℕ 
 
     numbers_typed : (ids : Code) (v : TypedTree) → AreNumbers s y ids → TakenWithin y integer v → AreTyped (map (typed_object s v) (code_items ids))
     unfolding IsTypedCode
-    numbers_typed (More d rest) v h source = ((subst (λ x. FirstTaken y x v) (sym h.0) source.0, subst (λ x. FirstWithin y x v) (sym h.0) source.1), numbers_typed rest v h.1 source)
-    numbers_typed ids v h source = tt
+    numbers_typed = on_more (λ ids. (v : TypedTree) → AreNumbers s y ids → TakenWithin y integer v → AreTyped (map (typed_object s v) (code_items ids)))
+        (λ d rest next v h source.
+        ((subst (λ x. FirstTaken y x v) (sym h.0) source.0, subst (λ x. FirstWithin y x v) (sym h.0) source.1), next v h.1 source))
+        (λ ids other v h source. rw (items_end ids other) (tt))
 
   module _ (looped starts : Bool) where
     abbrev c : Context

@@ -22,6 +22,7 @@ use Rattle.machine.specs.type_definitions.Statics.{value, value_as}
 use Rattle.machine.specs.type_definitions.Statements.{known_value}
 use Rattle.machine.specs.type_definitions.Whole.{predefined_types, predefined_entries, at_first, outside, gather_units, known_from, known_of}
 use Rattle.machine.specs.type_definitions.Gathered.{gather, each, declared_number, declared_pos, with_entry, with_info, with_type, own_info, texts, natural_of, indicated, with_indication, awaited_info, defined, is_asked, are_static_bounds, bound_pair, whole_bounds, array_bounds, with_literals, with_definition, full_info, constrained_shape, subtype_info, meant_by, with_object, object_info, constant_value, with_number, number_info, initial_value, plain_object, with_formal, with_formal_group, with_formals, with_result, with_front, with_body_front, profile, is_subprogram, front_number, parameter_type, in_subprogram, in_visible, in_hidden, instance_type}
+use Rattle.settled_types.proofs.Cases.{definition_end, each_end, formals_end, front_end, group_end, indication_end, on_access, on_enumeration, on_front, on_group, on_more, result_end}
 use Rattle.settled_types.proofs.TableLaws.Statics.{IsWhole, IsWholeEntry, value_whole, known_whole, as_whole}
 use Rattle.sound_files.specs.TypedFiles.TypedRuns.Bounds.{HaveBounds}
 use Rattle.sound_files.specs.TypedFiles.TypedTexts.Literals.{id_count, defined_count, literal_count}
@@ -150,18 +151,24 @@ module _ (P : ℕ → Type 0) (less : (m n : ℕ) → m ≤ n → P n → P m) (
   literals_kept t n ids c few are = are
 
   definition_kept : (t : ℕ) (def : Code) (c : Context) → P (defined_count def) → Good c → Good (with_definition t def c)
-  definition_kept t (Enumeration literals) c few are = literals_kept t 0 literals c (less (0 + id_count literals) (id_count literals) (omega arith) few) are
-  definition_kept t def c few are = are
+  definition_kept t = on_enumeration (λ def. (c : Context) → P (defined_count def) → Good c → Good (with_definition t def c))
+      (λ literals c few are.
+      literals_kept t 0 literals c (less (0 + id_count literals) (id_count literals) (omega arith) few) are)
+      (λ def other c few are. rw (definition_end t def c other) (are))
 
   -- ---- objects
 
   indication_kept : (d : ℕ) (i : Code) (c : Context) → Good c → Good (with_indication d i c)
-  indication_kept d (Anonymous p constant m) c are = row_kept c d (own_info (shape.Access (marked c.known m) constant false) d) tt are
-  indication_kept d i c are = are
+  indication_kept d = on_access (λ i. (c : Context) → Good c → Good (with_indication d i c))
+      (λ p constant m c are.
+      row_kept c d (own_info (shape.Access (marked c.known m) constant false) d) tt are)
+      (λ i other c are. rw (indication_end d i c other) (are))
 
   each_kept : (f : Code → Context → Context) (ids : Code) → ((d : Code) (c : Context) → Good c → Good (f d c)) → (c : Context) → Good c → Good (each f ids c)
-  each_kept f (More a rest) kept c are = each_kept f rest kept (f a c) (kept a c are)
-  each_kept f ids kept c are = are
+  each_kept f = on_more (λ ids. ((d : Code) (c : Context) → Good c → Good (f d c)) → (c : Context) → Good c → Good (each f ids c))
+      (λ a rest next kept c are.
+      next kept (f a c) (kept a c are))
+      (λ ids other kept c are. rw (each_end f ids c other) (are))
 
   constant_whole : (c : Context) (constant : Bool) (v : Tree) → Good c → IsWhole (constant_value c constant v).value
   constant_whole c true (More e rest) are = value_whole c (whole c are) e
@@ -184,23 +191,30 @@ module _ (P : ℕ → Type 0) (less : (m n : ℕ) → m ≤ n → P n → P m) (
       entry_kept (with_indication (declared_number d) of c) (declared_number d) (entry.Object (plain_object (indicated c.known (declared_number d) of) kind.Formal)) (tt, tt) (indication_kept (declared_number d) of c are)
 
   group_kept : (group : Code) (c : Context) → Good c → Good (with_formal_group group c)
-  group_kept (Formals names m of) c are = each_kept (with_formal of) names (λ d c. formal_kept of d c) c are
-  group_kept group c are = are
+  group_kept = on_group (λ group. (c : Context) → Good c → Good (with_formal_group group c))
+      (λ names m of c are.
+      each_kept (with_formal of) names (λ d c. formal_kept of d c) c are)
+      (λ group other c are. rw (group_end group c other) (are))
 
   result_kept : (d : ℕ) (result : Code) (c : Context) → Good c → Good (with_result d result c)
-  result_kept d (More i rest) c are = indication_kept d i c are
-  result_kept d result c are = are
+  result_kept d = on_more (λ result. (c : Context) → Good c → Good (with_result d result c))
+      (λ i rest _ c are.
+      indication_kept d i c are)
+      (λ result other c are. rw (result_end d result c other) (are))
 
   front_kept : (front : Code) (c : Context) → Good c → Good (with_front front c)
-  front_kept (Front d formals result) c are =
+  front_kept = on_front (λ front. (c : Context) → Good c → Good (with_front front c))
+      (λ d formals result c are.
       let n = declared_number d in
       let inner = each with_formal_group formals (with_result n result c) in
-      entry_kept inner n (entry.Subprogram (profile inner.known (Front d formals result))) (tt, tt) (each_kept with_formal_group formals group_kept (with_result n result c) (result_kept n result c are))
-  front_kept front c are = are
+      entry_kept inner n (entry.Subprogram (profile inner.known (Front d formals result))) (tt, tt) (each_kept with_formal_group formals group_kept (with_result n result c) (result_kept n result c are)))
+      (λ front other c are. rw (front_end front c other) (are))
 
   formals_kept : (front : Code) (c : Context) → Good c → Good (with_formals front c)
-  formals_kept (Front d formals result) c are = each_kept with_formal_group formals group_kept c are
-  formals_kept front c are = are
+  formals_kept = on_front (λ front. (c : Context) → Good c → Good (with_formals front c))
+      (λ d formals result c are.
+      each_kept with_formal_group formals group_kept c are)
+      (λ front other c are. rw (formals_end front c other) (are))
 
   body_kept : (front : Code) (c : Context) → Good c → Good (with_body_front front c)
   body_kept front c are = by (is_subprogram (entry_of c.known (front_number front)))
