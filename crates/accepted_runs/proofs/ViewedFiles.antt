@@ -2,6 +2,7 @@
 pub mod ViewLaws
 -- the crate itself
 mod Variables
+pub mod Grammar
 pub mod Joined
 pub mod Layers
 pub mod Placed

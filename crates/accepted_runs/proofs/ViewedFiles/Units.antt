@@ -27,6 +27,7 @@ use Rattle.accepted_runs.specs.ViewedFiles.Sources.{has_source, all_fit}
 use Rattle.accepted_runs.proofs.ViewedFiles.Sources as source
 use Rattle.accepted_runs.proofs.ViewedFiles.Sources.{IsLocalView, DeclaresPlain}
 use Rattle.accepted_runs.proofs.ViewedFiles.Walked as walked
+use Rattle.accepted_runs.proofs.ViewedFiles.Grammar.{on_parts}
 
 abbrev about : Site → List Object → List Signature → Typing
 about s objects subs = record { table = s.context.known.table; objects = objects; subs = subs }
@@ -84,6 +85,10 @@ module _ (s : Site) (objects : List Object) (subs : List Signature) (made : ℕ 
   abbrev Went : Home → ℕ → ℕ → ℕ → Code → Type 0
   Went h a n m c = Bodies n c × AreLocal (objects_in units h a m c) × AllByRecursion (DeclaresPlain y) (statements s n c)
 
+  -- So it is of code that is rooted, meant and typed, and breaks no rule.
+  abbrev Comes : Home → ℕ → ℕ → ℕ → Code → Type 0
+  Comes h a n m c = Rooted c → IsMeantCode s y made c → AreMeantBodies s y made c → AreTyped made s.context c → code_faults s.context c ≡ [] → Went h a n m c
+
   module _ (h : Home) (same : h.known ≡ s.context.known) (shared : in_package s.context ≡ true) (flat : s.context.in_loop ≡ false) where
     never : in_package s.context ≡ false → h.identifier ≡ None
     never none = absurd (true≢false (sym_both shared none))
@@ -110,27 +115,27 @@ module _ (s : Site) (objects : List Object) (subs : List Signature) (made : ℕ 
         no_bodies NoMore e = tt
         no_bodies _ e = absurd (false≢true e)
 
-    either_went : (a n m : ℕ) (b : Bool) (c : Code) → is_declaration c ≡ b → b || is_body c ≡ true → Rooted c → IsMeantCode s y made c → AreMeantBodies s y made c → AreTyped made s.context c
-        → code_faults s.context c ≡ [] → Went h a n m c
+    either_went : (a n m : ℕ) (b : Bool) (c : Code) → is_declaration c ≡ b → b || is_body c ≡ true → Comes h a n m c
     unfolding statements
-    either_went a n m true c declares e roots meant bodies are none = declaration_went a n m c declares meant are none
-    either_went a n m false (SubBody front items stmts end) declares e roots meant bodies are none =
-        (let one = body_here h same a n m front items stmts end e roots bodies are none in (one.0, one.1, tt))
-    either_went a n m false c declares e roots meant bodies are none = absurd (false≢true e)
+    either_went a n m true c declares e = λ roots meant bodies are none. declaration_went a n m c declares meant are none
+    either_went a n m false (SubBody front items stmts end) declares e =
+        λ roots meant bodies are none. (let one = body_here h same a n m front items stmts end e roots bodies are none in (one.0, one.1, tt))
+    either_went a n m false c declares e = absurd (false≢true e)
 
-    pub parts_went : (a n m : ℕ) (c : Code) → are_parts c ≡ true → Rooted c → IsMeantCode s y made c → AreMeantBodies s y made c → AreTyped made s.context c → code_faults s.context c ≡ [] → Went h a n m c
-    unfolding subs_in objects_in statements are_parts AreDenoted IsMeantCode AreMeantBodies AreTyped code_faults
-    parts_went a n m (More c rest) e roots meant bodies are none =
+    pub parts_went : (a n m : ℕ) (c : Code) → are_parts c ≡ true → Comes h a n m c
+    unfolding subs_in objects_in statements AreDenoted IsMeantCode AreMeantBodies AreTyped code_faults
+    parts_went a n m c e =
+        on_parts (λ c. (n m : ℕ) → Comes h a n m c)
+        (λ c rest one more n m roots meant bodies are none.
         let k : ℕ = n + scope_count c in
         let l : ℕ = m + scope_count c in
-        let first = either_went a n m (is_declaration c) c refl (and_first (is_declaration c || is_body c) (are_parts rest) e) roots.0 meant.0 bodies.0 are.0 (nil_left (code_faults s.context c) (code_faults s.context rest) none) in
-        let second = parts_went a k l rest (and_second (is_declaration c || is_body c) (are_parts rest) e) roots.1 meant.1 bodies.1 are.1 (nil_right (code_faults s.context c) (code_faults s.context rest) none) in (
+        let first = either_went a n m (is_declaration c) c refl one roots.0 meant.0 bodies.0 are.0 (nil_left (code_faults s.context c) (code_faults s.context rest) none) in
+        let second = more k l roots.1 meant.1 bodies.1 are.1 (nil_right (code_faults s.context c) (code_faults s.context rest) none) in (
           all_both (IsSourced y) (subs_in s n c) (subs_in s k rest) first.0 second.0,
           all_both (IsLocalView s.context.known.table) (objects_in units h a m c) (objects_in units h a l rest) first.1 second.1,
           all_both (DeclaresPlain y) (statements s n c) (statements s k rest) first.2 second.2,
-        )
-    parts_went a n m NoMore e roots meant bodies are none = (tt, tt, tt)
-    parts_went a n m _ e roots meant bodies are none = absurd (false≢true e)
+        ))
+        (λ n m roots meant bodies are none. (tt, tt, tt)) c e n m
 
     -- the declarations of a package
     pub declarations_went : (a n m : ℕ) (c : Code) → are_declarations c ≡ true → IsMeantCode s y made c → AreTyped made s.context c → code_faults s.context c ≡ []
@@ -158,10 +163,14 @@ module _ (known : Known) (units : List Code) (objects : List Object) (subs : Lis
   Unit_went h n m u =
       AllByRecursion (IsSourced typing) (subs_in s n u) × AllByRecursion (IsLocalView known.table) (objects_in units h 0 m u) × AllByRecursion (DeclaresPlain typing) (elaborated s n u)
 
-  unit_went : (h : Home) → h.known ≡ known → (n m : ℕ) (u : Code) → is_unit u ≡ true → Rooted_unit u → AreMeantBodies s typing made u → AreMeantObjects s typing made u → AreTyped made (outside known) u
-      → code_faults (outside known) u ≡ [] → Unit_went h n m u
+  abbrev Unit_comes : Home → ℕ → ℕ → Code → Type 0
+  Unit_comes h n m u =
+      Rooted_unit u → AreMeantBodies s typing made u → AreMeantObjects s typing made u → AreTyped made (outside known) u → code_faults (outside known) u ≡ [] → Unit_went h n m u
+
+  unit_went : (h : Home) → h.known ≡ known → (n m : ℕ) (u : Code) → is_unit u ≡ true → Unit_comes h n m u
   unfolding subs_in objects_in AreDenoted AreMeantBodies AreTyped code_faults
-  unit_went h same n m (Package d visible hidden) e roots bodies meant are none =
+  unit_went h same n m (Package d visible hidden) e =
+      λ roots bodies meant are none.
       let first : Site = placed (in_visible (declared_number d)) s in
       let second : Site = placed (in_hidden (declared_number d)) s in
       let inner : Home = packaged (declared_text d) h in
@@ -173,12 +182,14 @@ module _ (known : Known) (units : List Code) (objects : List Object) (subs : Lis
         all_both (IsLocalView known.table) (objects_in units inner 0 m visible) (objects_in units inner 0 (m + scope_count visible) hidden) one.0 two.0,
         all_both (DeclaresPlain typing) (statements first n visible) (statements second (n + scope_count visible) hidden) one.1 two.1,
       )
-  unit_went h same n m (PackageBody d parts) e roots bodies meant are none =
+  unit_went h same n m (PackageBody d parts) e =
+      λ roots bodies meant are none.
       parts_went (placed (in_hidden (declared_number d)) s) objects subs made laws marks units (packaged (package_text units (declared_number d)) h) same refl refl 0 n m parts e roots meant bodies are none
-  unit_went h same n m (SubBody front items stmts end) e roots bodies meant are none =
+  unit_went h same n m (SubBody front items stmts end) e =
+      λ roots bodies meant are none.
       let one = body_here s objects subs made laws marks units h same 0 n m front items stmts end
       (and_second (is_procedure front) (are_declarations items && are_statements false stmts) e) roots bodies are none in (one.0, one.1, tt)
-  unit_went h same n m _ e roots bodies meant are none = absurd (false≢true e)
+  unit_went h same n m _ e = absurd (false≢true e)
 
   pub units_went : (h : Home) → h.known ≡ known → (n m : ℕ) (us : List Code) → ((u : Code) → Has us u → is_unit u ≡ true)
       → ((u : Code) → Has us u → Rooted_unit u) → ((u : Code) → Has us u → AreMeantBodies s typing made u × AreMeantObjects s typing made u) → ((u : Code) → Has us u → AreTyped made (outside known) u)

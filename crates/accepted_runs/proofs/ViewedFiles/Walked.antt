@@ -33,6 +33,7 @@ use Rattle.settled_types.specs.OrderLaws.Written.{is_declaration, are_declaratio
 use Rattle.sound_files.specs.MeantFiles.Denoted.{AreDenoted}
 use Rattle.sound_files.specs.MeantFiles.Typed.{AreTyped}
 use Rattle.accepted_runs.specs.ViewedFiles.Sources.{has_source, all_fit}
+use Rattle.accepted_runs.proofs.ViewedFiles.Grammar.{on_declarations}
 use Rattle.accepted_runs.proofs.ViewedFiles.Sources as source
 use Rattle.accepted_runs.proofs.ViewedFiles.Sources.{IsLocalView, DeclaresPlain, scalar_plain}
 
@@ -93,6 +94,12 @@ module _ (s : Site) (objects : List Object) (subs : List Signature) (made : ℕ 
   abbrev Faultless : Bool → Code → Type 0
   Faultless looped c = code_faults (flagged looped s.context.starts s.context) c ≡ []
 
+  abbrev pub Declares : Bool → (a n m : ℕ) → Code → Type 0
+  Declares looped a n m c = IsMeantCode s y made c → AreTyped made s.context c → Faultless looped c → Went a n m c
+
+  abbrev pub Goes : Bool → (a n m : ℕ) → Code → Type 0
+  Goes looped a n m c = Rooted c → IsMeantCode s y made c → AreTyped made s.context c → Faultless looped c → Went a n m c
+
   went_both : (a n k m l : ℕ) (c d : Code) → Went a n m c → Went a k l d
       → Fits (statements s n c ++ statements s k d) × AreLocal (objects_in units h a m c ++ objects_in units h a l d)
   went_both a n k m l c d x z = (
@@ -100,7 +107,7 @@ module _ (s : Site) (objects : List Object) (subs : List Signature) (made : ℕ 
     all_both (IsLocalView table) (objects_in units h a m c) (objects_in units h a l d) x.1 z.1,
   )
 
-  pub one_declaration : (looped : Bool) (a n m : ℕ) (c : Code) → is_declaration c ≡ true → IsMeantCode s y made c → AreTyped made s.context c → Faultless looped c → Went a n m c
+  pub one_declaration : (looped : Bool) (a n m : ℕ) (c : Code) → is_declaration c ≡ true → Declares looped a n m c
   unfolding statements objects_in IsMeantCode AreTyped code_faults
   one_declaration looped a n m (Objects ids constant i v) e meant are none = (
     source.objects_fit s objects subs made laws looped marks ids i constant v meant.0 meant.1 none,
@@ -120,63 +127,71 @@ module _ (s : Site) (objects : List Object) (subs : List Signature) (made : ℕ 
   one_declaration looped a n m NoMore e meant are none = (tt, tt)
   one_declaration looped a n m _ e meant are none = absurd (false≢true e)
 
-  pub declarations_went : (looped : Bool) (a n m : ℕ) (c : Code) → are_declarations c ≡ true → IsMeantCode s y made c → AreTyped made s.context c → Faultless looped c → Went a n m c
-  unfolding statements objects_in IsMeantCode AreTyped code_faults are_declarations
-  declarations_went looped a n m (More c rest) e meant are none =
+  pub declarations_went : (looped : Bool) (a n m : ℕ) (c : Code) → are_declarations c ≡ true → Declares looped a n m c
+  unfolding statements objects_in IsMeantCode AreTyped code_faults
+  declarations_went looped a n m c e =
+      on_declarations (λ c. (n m : ℕ) → Declares looped a n m c)
+      (λ c rest one later n m meant are none.
       let z : Context = flagged looped s.context.starts s.context in
       went_both a n (n + scope_count c) m (m + scope_count c) c rest
-      (one_declaration looped a n m c (and_first (is_declaration c) (are_declarations rest) e) meant.0 are.0 (nil_left (code_faults z c) (code_faults z rest) none))
-      (declarations_went looped a (n + scope_count c) (m + scope_count c) rest (and_second (is_declaration c) (are_declarations rest) e) meant.1 are.1 (nil_right (code_faults z c) (code_faults z rest) none))
-  declarations_went looped a n m NoMore e meant are none = (tt, tt)
-  declarations_went looped a n m _ e meant are none = absurd (false≢true e)
+      (one_declaration looped a n m c one meant.0 are.0 (nil_left (code_faults z c) (code_faults z rest) none))
+      (later (n + scope_count c) (m + scope_count c) meant.1 are.1 (nil_right (code_faults z c) (code_faults z rest) none)))
+      (λ n m meant are none. (tt, tt)) c e n m
 
   -- What a package declares is no view.
-  pub declaration_plain : (n : ℕ) (c : Code) → in_package s.context ≡ true → is_declaration c ≡ true → IsMeantCode s y made c → Faultless false c → AllByRecursion (DeclaresPlain y) (statements s n c)
-  unfolding statements IsMeantCode code_faults
-  declaration_plain n (Objects ids constant i v) shared e meant none = source.objects_plain s objects subs made laws false marks ids i constant v _ shared meant.0 none
-  declaration_plain n (Numbers ids v) shared e meant none = source.numbers_plain s objects subs made laws ids _ meant.0
-  declaration_plain n (Incomplete d) shared e meant none = tt
-  declaration_plain n (Private d) shared e meant none = tt
-  declaration_plain n (TypeDecl d def end) shared e meant none = tt
-  declaration_plain n (Subtype d mark) shared e meant none = tt
-  declaration_plain n (ConstrainedSubtype d mark low high) shared e meant none = tt
-  declaration_plain n (Instance d mark args) shared e meant none = tt
-  declaration_plain n (SubDecl front) shared e meant none = tt
-  declaration_plain n NoMore shared e meant none = tt
-  declaration_plain n _ shared e meant none = absurd (false≢true e)
+  abbrev pub DeclaresNoView : ℕ → Code → Type 0
+  DeclaresNoView n c = IsMeantCode s y made c → Faultless false c → AllByRecursion (DeclaresPlain y) (statements s n c)
 
-  pub declarations_plain : (n : ℕ) (c : Code) → in_package s.context ≡ true → are_declarations c ≡ true → IsMeantCode s y made c → Faultless false c → AllByRecursion (DeclaresPlain y) (statements s n c)
-  unfolding statements IsMeantCode code_faults are_declarations
-  declarations_plain n (More c rest) shared e meant none =
+  pub declaration_plain : (n : ℕ) (c : Code) → in_package s.context ≡ true → is_declaration c ≡ true → DeclaresNoView n c
+  unfolding statements IsMeantCode code_faults
+  declaration_plain n (Objects ids constant i v) shared e = λ meant none. source.objects_plain s objects subs made laws false marks ids i constant v _ shared meant.0 none
+  declaration_plain n (Numbers ids v) shared e = λ meant none. source.numbers_plain s objects subs made laws ids _ meant.0
+  declaration_plain n (Incomplete d) shared e = λ meant none. tt
+  declaration_plain n (Private d) shared e = λ meant none. tt
+  declaration_plain n (TypeDecl d def end) shared e = λ meant none. tt
+  declaration_plain n (Subtype d mark) shared e = λ meant none. tt
+  declaration_plain n (ConstrainedSubtype d mark low high) shared e = λ meant none. tt
+  declaration_plain n (Instance d mark args) shared e = λ meant none. tt
+  declaration_plain n (SubDecl front) shared e = λ meant none. tt
+  declaration_plain n NoMore shared e = λ meant none. tt
+  declaration_plain n _ shared e = absurd (false≢true e)
+
+  pub declarations_plain : (n : ℕ) (c : Code) → in_package s.context ≡ true → are_declarations c ≡ true → DeclaresNoView n c
+  unfolding statements IsMeantCode code_faults
+  declarations_plain n c shared e =
+      on_declarations (λ c. (n : ℕ) → DeclaresNoView n c)
+      (λ c rest one later n meant none.
       let z : Context = flagged false s.context.starts s.context in
       all_both (DeclaresPlain y) (statements s n c) (statements s (n + scope_count c) rest)
-      (declaration_plain n c shared (and_first (is_declaration c) (are_declarations rest) e) meant.0 (nil_left (code_faults z c) (code_faults z rest) none))
-      (declarations_plain (n + scope_count c) rest shared (and_second (is_declaration c) (are_declarations rest) e) meant.1 (nil_right (code_faults z c) (code_faults z rest) none))
-  declarations_plain n NoMore shared e meant none = tt
-  declarations_plain n _ shared e meant none = absurd (false≢true e)
+      (declaration_plain n c shared one meant.0 (nil_left (code_faults z c) (code_faults z rest) none))
+      (later (n + scope_count c) meant.1 (nil_right (code_faults z c) (code_faults z rest) none)))
+      (λ n meant none. tt) c e n
 
   mutual
     unfolding statements objects_in IsMeantCode AreAlternatives AreDenoted AreTyped code_faults alternatives_faults alternative_faults all_fit are_statements is_statement are_branches is_branch are_alternatives is_alternative
 
-    pub statements_went : (looped inside : Bool) (a n m : ℕ) (c : Code) → are_statements inside c ≡ true → Rooted c → IsMeantCode s y made c → AreTyped made s.context c → Faultless looped c → Went a n m c
-    statements_went looped inside a n m (More c rest) e roots meant are none =
+    pub statements_went : (looped inside : Bool) (a n m : ℕ) (c : Code) → are_statements inside c ≡ true → Goes looped a n m c
+    statements_went looped inside a n m (More c rest) e =
+        λ roots meant are none.
         let z : Context = flagged looped s.context.starts s.context in
         went_both a n (n + scope_count c) m (m + scope_count c) c rest
         (one_went looped inside a n m c (and_first (is_statement inside c) (are_statements inside rest) e) roots.0 meant.0 are.0 (nil_left (code_faults z c) (code_faults z rest) none))
         (statements_went looped inside a (n + scope_count c) (m + scope_count c) rest (and_second (is_statement inside c) (are_statements inside rest) e) roots.1 meant.1 are.1
         (nil_right (code_faults z c) (code_faults z rest) none))
-    statements_went looped inside a n m NoMore e roots meant are none = (tt, tt)
-    statements_went looped inside a n m _ e roots meant are none = absurd (false≢true e)
+    statements_went looped inside a n m NoMore e = λ roots meant are none. (tt, tt)
+    statements_went looped inside a n m _ e = absurd (false≢true e)
 
-    one_went : (looped inside : Bool) (a n m : ℕ) (c : Code) → is_statement inside c ≡ true → Rooted c → IsMeantCode s y made c → AreTyped made s.context c → Faultless looped c → Went a n m c
-    one_went looped inside a n m (Skip p) e roots meant are none = ((refl, tt), tt)
-    one_went looped inside a n m (Assign target v) e roots meant are none =
+    one_went : (looped inside : Bool) (a n m : ℕ) (c : Code) → is_statement inside c ≡ true → Goes looped a n m c
+    one_went looped inside a n m (Skip p) e = λ roots meant are none. ((refl, tt), tt)
+    one_went looped inside a n m (Assign target v) e =
+        λ roots meant are none.
         let z : Context = flagged looped s.context.starts s.context in
         ((source.assign_fit s objects subs made laws looped s.context.starts target v roots.0 meant.0 meant.1 (nil_left (target_faults z target) _ none) (nil_right (target_faults z target) _ none), tt), tt)
-    one_went looped inside a n m (Call name) e roots meant are none = ((call_fits name, tt), tt)
-    one_went looped inside a n m (Exit p when) e roots meant are none = ((refl, tt), tt)
-    one_went looped inside a n m (Return p v) e roots meant are none = ((refl, tt), tt)
-    one_went looped inside a n m (If p branches otherwise) e roots meant are none =
+    one_went looped inside a n m (Call name) e = λ roots meant are none. ((call_fits name, tt), tt)
+    one_went looped inside a n m (Exit p when) e = λ roots meant are none. ((refl, tt), tt)
+    one_went looped inside a n m (Return p v) e = λ roots meant are none. ((refl, tt), tt)
+    one_went looped inside a n m (If p branches otherwise) e =
+        λ roots meant are none.
         let z : Context = flagged looped s.context.starts s.context in
         let first = branches_went looped inside a n m branches (and_first (are_branches inside branches) (are_statements inside otherwise) e) roots.0 meant.0 are.0 (nil_left (code_faults z branches) (code_faults z otherwise) none) in
         let second = statements_went looped inside a (n + scope_count branches) (m + scope_count branches) otherwise (and_second (are_branches inside branches) (are_statements inside otherwise) e) roots.1 meant.1 are.1
@@ -188,17 +203,21 @@ module _ (s : Site) (objects : List Object) (subs : List Signature) (made : ℕ 
           ),
           all_both (IsLocalView table) (objects_in units h a m branches) (objects_in units h a (m + scope_count branches) otherwise) first.1 second.1,
         )
-    one_went looped inside a n m (Case p v whens) e roots meant are none =
+    one_went looped inside a n m (Case p v whens) e =
+        λ roots meant are none.
         let z : Context = flagged looped s.context.starts s.context in
         let more = nil_right (selector_faults z v) _ none in
         let first = alternatives_went looped inside a n m (type_or_integer (own_type z v)) whens e roots.1 meant.1 are (nil_right (coverage z p v (choices_of whens)) _ more) in
         ((listed (statements s n whens) first.0, tt), first.1)
-    one_went looped inside a n m (Loop p stmts) e roots meant are none =
+    one_went looped inside a n m (Loop p stmts) e =
+        λ roots meant are none.
         let first = statements_went true true a n m stmts e roots meant are none in ((listed (statements s n stmts) first.0, tt), first.1)
-    one_went looped inside a n m (While p v stmts) e roots meant are none =
+    one_went looped inside a n m (While p v stmts) e =
+        λ roots meant are none.
         let z : Context = flagged looped s.context.starts s.context in
         let first = statements_went true true a n m stmts e roots.1 meant.1 are (nil_right (faults z stands.Elsewhere boolean v) _ none) in ((listed (statements s n stmts) first.0, tt), first.1)
-    one_went looped inside a n m (For p d reversed range stmts) e roots meant are none =
+    one_went looped inside a n m (For p d reversed range stmts) e =
+        λ roots meant are none.
         let z : Context = flagged looped s.context.starts s.context in
         let first = statements_went true true m (n + 1) (m + 1) stmts e roots.2 meant.2 are.1 (nil_right (range_faults z range) _ none) in
         let scalar : is_scalar (full table (parameter_type s.context range)) ≡ true =
@@ -210,7 +229,8 @@ module _ (s : Site) (objects : List Object) (subs : List Signature) (made : ℕ 
             first.1,
           ),
         )
-    one_went looped inside a n m (Block p items stmts end) e roots meant are none =
+    one_went looped inside a n m (Block p items stmts end) e =
+        λ roots meant are none.
         let z : Context = flagged looped s.context.starts s.context in
         let k : ℕ = n + 1 + scope_count items in
         let l : ℕ = m + 1 + scope_count items in
@@ -218,25 +238,27 @@ module _ (s : Site) (objects : List Object) (subs : List Signature) (made : ℕ 
         (declarations_went looped m (n + 1) (m + 1) items (and_first (are_declarations items) (are_statements inside stmts) e) meant.0 are.0 (nil_left (code_faults z items) (code_faults z stmts) none))
         (statements_went looped inside m k l stmts (and_second (are_declarations items) (are_statements inside stmts) e) roots.1 meant.1 are.1 (nil_right (code_faults z items) (code_faults z stmts) none)) in
         ((listed (statements s (n + 1) items ++ statements s k stmts) whole.0, tt), whole.1)
-    one_went looped inside a n m NoMore e roots meant are none = (tt, tt)
-    one_went looped inside a n m _ e roots meant are none = absurd (false≢true e)
+    one_went looped inside a n m NoMore e = λ roots meant are none. (tt, tt)
+    one_went looped inside a n m _ e = absurd (false≢true e)
 
-    branches_went : (looped inside : Bool) (a n m : ℕ) (c : Code) → are_branches inside c ≡ true → Rooted c → IsMeantCode s y made c → AreTyped made s.context c → Faultless looped c → Went a n m c
-    branches_went looped inside a n m (More c rest) e roots meant are none =
+    branches_went : (looped inside : Bool) (a n m : ℕ) (c : Code) → are_branches inside c ≡ true → Goes looped a n m c
+    branches_went looped inside a n m (More c rest) e =
+        λ roots meant are none.
         let z : Context = flagged looped s.context.starts s.context in
         went_both a n (n + scope_count c) m (m + scope_count c) c rest
         (branch_went looped inside a n m c (and_first (is_branch inside c) (are_branches inside rest) e) roots.0 meant.0 are.0 (nil_left (code_faults z c) (code_faults z rest) none))
         (branches_went looped inside a (n + scope_count c) (m + scope_count c) rest (and_second (is_branch inside c) (are_branches inside rest) e) roots.1 meant.1 are.1
         (nil_right (code_faults z c) (code_faults z rest) none))
-    branches_went looped inside a n m NoMore e roots meant are none = (tt, tt)
-    branches_went looped inside a n m _ e roots meant are none = absurd (false≢true e)
+    branches_went looped inside a n m NoMore e = λ roots meant are none. (tt, tt)
+    branches_went looped inside a n m _ e = absurd (false≢true e)
 
-    branch_went : (looped inside : Bool) (a n m : ℕ) (c : Code) → is_branch inside c ≡ true → Rooted c → IsMeantCode s y made c → AreTyped made s.context c → Faultless looped c → Went a n m c
-    branch_went looped inside a n m (Branch p v stmts) e roots meant are none =
+    branch_went : (looped inside : Bool) (a n m : ℕ) (c : Code) → is_branch inside c ≡ true → Goes looped a n m c
+    branch_went looped inside a n m (Branch p v stmts) e =
+        λ roots meant are none.
         let z : Context = flagged looped s.context.starts s.context in
         let first = statements_went looped inside a n m stmts e roots.1 meant.1 are (nil_right (faults z stands.Elsewhere boolean v) _ none) in ((listed (statements s n stmts) first.0, tt), first.1)
-    branch_went looped inside a n m NoMore e roots meant are none = (tt, tt)
-    branch_went looped inside a n m _ e roots meant are none = absurd (false≢true e)
+    branch_went looped inside a n m NoMore e = λ roots meant are none. (tt, tt)
+    branch_went looped inside a n m _ e = absurd (false≢true e)
 
     alternatives_went : (looped inside : Bool) (a n m t : ℕ) (c : Code) → are_alternatives inside c ≡ true → Rooted c → AreAlternatives s y made c → AreTyped made s.context c
         → alternatives_faults (flagged looped s.context.starts s.context) t c ≡ [] → Went a n m c
