@@ -2,7 +2,6 @@
 pub mod ViewLaws
 -- the crate itself
 mod Variables
-pub mod Grammar
 pub mod Joined
 pub mod Layers
 pub mod Placed

@@ -2,6 +2,8 @@
 pub mod ScopeLaws
 -- which programs are ready, by their typed code, so that soundness speaks of their runs
 pub mod ReadyLaws
+-- induction over code as the grammar has it
+pub mod Grammar
 -- typed bodies, and what the layout asks of them
 pub mod Bodies
 pub mod Settled

@@ -8,7 +8,7 @@ use Rattle.machine.specs.spark_base.declared.position.Pos.{Pos}
 use Rattle.machine.specs.spark_base.Lists.{Has}
 use Rattle.soundness.proofs.Lists.{Has-append_cases}
 use Rattle.machine.specs.place_names.declared.act.Mode.TheVariants as mode
-use Rattle.machine.specs.resolved_tree.Trees.{Code, Incomplete, Private, TypeDecl, Subtype, ConstrainedSubtype, Objects, Numbers, Instance, SubDecl, SubBody, Package, PackageBody, NoMore, More, code_items}
+use Rattle.machine.specs.resolved_tree.Trees.{Code, Incomplete, Private, TypeDecl, Subtype, ConstrainedSubtype, Objects, Numbers, Instance, SubDecl, SubBody, Package, PackageBody, NoMore, code_items}
 use Rattle.machine.specs.type_definitions.Entries.{entry_of}
 use Rattle.machine.specs.type_definitions.Gathered.{in_hidden, declared_number, declared_text}
 use Rattle.machine.specs.typed_tree.Expressions.{Site, object_number}
@@ -22,7 +22,7 @@ use Rattle.sound_files.proofs.SeenFiles.Typed.{units_seen}
 use Rattle.settled_types.specs.OrderLaws.Written.{is_declaration, are_declarations, are_statements, is_body, are_parts, is_procedure, is_unit}
 use Rattle.accepted_runs.specs.ViewedFiles.Places.{AreAt, AreAround}
 use Rattle.accepted_runs.specs.ViewedFiles.Laid.{IsLaidBody}
-use Rattle.accepted_runs.proofs.ViewedFiles.Grammar.{on_declarations, on_parts}
+use Rattle.settled_types.proofs.OrderLaws.Grammar.{on_declarations, on_parts}
 use Rattle.accepted_runs.proofs.ViewedFiles.Layers.{at_left, at_right, around_both}
 
 -- Objects that are known are as told.

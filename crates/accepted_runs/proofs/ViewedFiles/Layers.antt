@@ -6,7 +6,7 @@ use Rattle.std.proofs.lemmas.List.{length-append}
 use Rattle.machine.specs.spark_base.Lists.{Has}
 use Rattle.machine.specs.spark_base.declared.position.Pos.{Pos}
 use Rattle.machine.specs.place_names.declared.act.Mode.TheVariants as mode
-use Rattle.machine.specs.resolved_tree.Trees.{Tree, Code, Incomplete, Private, TypeDecl, Subtype, ConstrainedSubtype, Objects, Numbers, Instance, SubDecl, SubBody, Package, PackageBody, Skip, Assign, Call, Exit, Return, If, Branch, Case, When, Loop, While, For, Block, NoMore, More, code_items}
+use Rattle.machine.specs.resolved_tree.Trees.{Tree, Code, Incomplete, Private, TypeDecl, Subtype, ConstrainedSubtype, Objects, Numbers, Instance, SubDecl, Package, Skip, Assign, Call, Exit, Return, If, Branch, Case, When, Loop, While, For, Block, NoMore, More, code_items}
 use Rattle.machine.specs.resolved_tree.Trees as resolved
 use Rattle.machine.specs.type_definitions.declared.table.Entry.{Entry}
 use Rattle.machine.specs.type_definitions.declared.table.Entry.TheVariants as entry
@@ -26,11 +26,12 @@ use Rattle.machine.specs.flow_paths.Layout.{declared}
 use Rattle.machine.specs.flow_paths.Views.{encloses, scope_of}
 use Rattle.settled_types.proofs.OrderLaws.ScopeLaws.Lists.{and_first, and_second, both_true}
 use Rattle.settled_types.specs.OrderLaws.ScopeLaws.LayeredScopes.Layered.{is_older, are_of_scope, are_apart, is_layered, is_each_layered}
-use Rattle.settled_types.specs.OrderLaws.Written.{is_declaration, are_declarations, are_statements, is_statement, are_branches, is_branch, are_alternatives, is_alternative}
+use Rattle.settled_types.specs.OrderLaws.Written.{is_declaration, are_declarations, are_statements}
 use Rattle.accepted_runs.proofs.ViewedFiles.ViewLaws.Enclosing.{itself, transitive, outward, enclosing_less}
 use Rattle.accepted_runs.proofs.ViewedFiles.ViewLaws.Inner.{code_inner}
 use Rattle.accepted_runs.specs.ViewedFiles.Places.{AreAt, AreAround}
 use Rattle.accepted_runs.proofs.ViewedFiles.Joined.{nothing_asked}
+use Rattle.settled_types.proofs.OrderLaws.Grammar.{on_declarations, StatementLaws, on_statements}
 
 at_same : (s : Site) (own : Typing) (k j : ℕ) (os : List DeclaredObject) → k ≡ j → AreAt s own k os → AreAt s own j os
 at_same s own k j os e h = subst (λ n. AreAt s own n os) e h
@@ -491,62 +492,34 @@ module _ (own : Typing) (scopes : List ℕ) (inner : (b : ℕ) → get_or scopes
       declaration_carried c e a m k sc laid below = one_declaration k a m sc c e laid below
 
       declarations_go : (c : Code) → are_declarations c ≡ true → Carried c
-      unfolding are_declarations
-      declarations_go (More c rest) e =
-          list_carried c rest (declaration_carried c (and_first (is_declaration c) (are_declarations rest) e)) (declarations_go rest (and_second (is_declaration c) (are_declarations rest) e))
-      declarations_go NoMore e = plain_carried NoMore refl
-      declarations_go _ e = never e
+      declarations_go = on_declarations Carried (λ c rest one more. list_carried c rest (declaration_carried c one) more) (plain_carried NoMore refl)
 
-      mutual
-        unfolding are_statements is_statement are_branches is_branch are_alternatives is_alternative
+      carried_laws : StatementLaws (λ looped c. Carried c) (λ looped c. EachCarried c) (λ looped c. EachCarried c) (λ looped c. EachCarried c)
+      carried_laws = record {
+        list = λ looped c rest one more. list_carried c rest one more;
+        none = λ looped. plain_carried NoMore refl;
+        skip = λ looped p. plain_carried (Skip p) refl;
+        assign = λ looped target v. plain_carried (Assign target v) refl;
+        call = λ looped name. plain_carried (Call name) refl;
+        exit = λ looped p when e. plain_carried (Exit p when) refl;
+        return = λ looped p v. plain_carried (Return p v) refl;
+        choice = λ looped p branches otherwise one more. if_carried p branches otherwise one more;
+        cases = λ looped p v whens one. case_carried p v whens one;
+        loop = λ looped p stmts one. loop_carried p stmts one;
+        while = λ looped p v stmts one. while_carried p v stmts one;
+        for = λ looped p d reversed range stmts one. for_carried p d reversed range stmts one;
+        block = λ looped p items stmts end declares one. block_carried p items stmts end (declarations_go items declares) one;
+        branches = λ looped c rest one more. each_carried c rest one more;
+        no_branches = λ looped. none_carried;
+        branch = λ looped p v stmts one. branch_carried p v stmts one;
+        alternatives = λ looped c rest one more. each_carried c rest one more;
+        no_alternatives = λ looped. none_carried;
+        alternative = λ looped choices stmts one. when_carried choices stmts one;
+        no_alternative = λ looped. none_carried;
+      }
 
-        statements_go : (looped : Bool) (c : Code) → are_statements looped c ≡ true → Carried c
-        statements_go looped (More c rest) e =
-            list_carried c rest (one_goes looped c (and_first (is_statement looped c) (are_statements looped rest) e)) (statements_go looped rest (and_second (is_statement looped c) (are_statements looped rest) e))
-        statements_go looped NoMore e = plain_carried NoMore refl
-        statements_go looped _ e = never e
-
-        one_goes : (looped : Bool) (c : Code) → is_statement looped c ≡ true → Carried c
-        one_goes looped (Skip p) e = plain_carried (Skip p) refl
-        one_goes looped (Assign target v) e = plain_carried (Assign target v) refl
-        one_goes looped (Call name) e = plain_carried (Call name) refl
-        one_goes looped (Exit p when) e = plain_carried (Exit p when) refl
-        one_goes looped (Return p v) e = plain_carried (Return p v) refl
-        one_goes looped (If p branches otherwise) e =
-            if_carried p branches otherwise (branches_go looped branches (and_first (are_branches looped branches) (are_statements looped otherwise) e))
-            (statements_go looped otherwise (and_second (are_branches looped branches) (are_statements looped otherwise) e))
-        one_goes looped (Case p v whens) e = case_carried p v whens (alternatives_go looped whens e)
-        one_goes looped (Loop p stmts) e = loop_carried p stmts (statements_go true stmts e)
-        one_goes looped (While p v stmts) e = while_carried p v stmts (statements_go true stmts e)
-        one_goes looped (For p d reversed range stmts) e = for_carried p d reversed range stmts (statements_go true stmts e)
-        one_goes looped (Block p items stmts end) e =
-            block_carried p items stmts end (declarations_go items (and_first (are_declarations items) (are_statements looped stmts) e))
-            (statements_go looped stmts (and_second (are_declarations items) (are_statements looped stmts) e))
-        one_goes looped NoMore e = plain_carried NoMore refl
-        one_goes looped _ e = never e
-
-        branches_go : (looped : Bool) (c : Code) → are_branches looped c ≡ true → EachCarried c
-        branches_go looped (More c rest) e =
-            each_carried c rest (one_branch looped c (and_first (is_branch looped c) (are_branches looped rest) e)) (branches_go looped rest (and_second (is_branch looped c) (are_branches looped rest) e))
-        branches_go looped NoMore e = none_carried
-        branches_go looped _ e = never e
-
-        one_branch : (looped : Bool) (c : Code) → is_branch looped c ≡ true → EachCarried c
-        one_branch looped (Branch p v stmts) e = branch_carried p v stmts (statements_go looped stmts e)
-        one_branch looped NoMore e = none_carried
-        one_branch looped _ e = never e
-
-        alternatives_go : (looped : Bool) (c : Code) → are_alternatives looped c ≡ true → EachCarried c
-        alternatives_go looped (More c rest) e =
-            each_carried c rest (one_alternative looped c (and_first (is_alternative looped c) (are_alternatives looped rest) e))
-            (alternatives_go looped rest (and_second (is_alternative looped c) (are_alternatives looped rest) e))
-        alternatives_go looped NoMore e = none_carried
-        alternatives_go looped _ e = never e
-
-        one_alternative : (looped : Bool) (c : Code) → is_alternative looped c ≡ true → EachCarried c
-        one_alternative looped (When choices stmts) e = when_carried choices stmts (statements_go looped stmts e)
-        one_alternative looped NoMore e = none_carried
-        one_alternative looped _ e = never e
+      statements_go : (looped : Bool) (c : Code) → are_statements looped c ≡ true → Carried c
+      statements_go = on_statements carried_laws
 
       -- ---- bodies
 

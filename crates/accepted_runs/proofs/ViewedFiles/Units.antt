@@ -5,7 +5,7 @@ use Rattle.std.specs.List.{AllByRecursion}
 use Rattle.std.proofs.lemmas.Bool.{false≢true}
 use Rattle.machine.specs.spark_base.Lists.{Has}
 use Rattle.machine.specs.spark_base.declared.position.Pos.{Pos}
-use Rattle.machine.specs.resolved_tree.Trees.{Code, Incomplete, Private, TypeDecl, Subtype, ConstrainedSubtype, Objects, Numbers, Instance, SubDecl, SubBody, Package, PackageBody, NoMore, More}
+use Rattle.machine.specs.resolved_tree.Trees.{Code, Incomplete, Private, TypeDecl, Subtype, ConstrainedSubtype, Objects, Numbers, Instance, SubDecl, SubBody, Package, PackageBody, NoMore}
 use Rattle.machine.specs.type_definitions.declared.table.Known.{Known}
 use Rattle.machine.specs.type_definitions.Names.{Context}
 use Rattle.machine.specs.type_definitions.Gathered.{declared_number, declared_text, in_subprogram, in_visible, in_hidden}
@@ -27,7 +27,7 @@ use Rattle.accepted_runs.specs.ViewedFiles.Sources.{has_source, all_fit}
 use Rattle.accepted_runs.proofs.ViewedFiles.Sources as source
 use Rattle.accepted_runs.proofs.ViewedFiles.Sources.{IsLocalView, DeclaresPlain}
 use Rattle.accepted_runs.proofs.ViewedFiles.Walked as walked
-use Rattle.accepted_runs.proofs.ViewedFiles.Grammar.{on_parts}
+use Rattle.settled_types.proofs.OrderLaws.Grammar.{on_parts}
 
 abbrev about : Site → List Object → List Signature → Typing
 about s objects subs = record { table = s.context.known.table; objects = objects; subs = subs }

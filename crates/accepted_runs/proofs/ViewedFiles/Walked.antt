@@ -3,7 +3,7 @@ use Rattle.std.proofs.Common.{◌≡◌, refl, ℕ, ◌+◌, Bool, true, false, 
 use Rattle.std.specs.List.{AllByRecursion}
 use Rattle.std.proofs.lemmas.Bool.{false≢true}
 use Rattle.machine.specs.place_names.declared.act.Mode.TheVariants as mode
-use Rattle.machine.specs.resolved_tree.Trees.{Tree, Code, Incomplete, Private, TypeDecl, Subtype, ConstrainedSubtype, Objects, Numbers, Instance, SubDecl, SubBody, Package, PackageBody, Skip, Assign, Call, Exit, Return, If, Branch, Case, When, Loop, While, For, Block, NoMore, More, code_items}
+use Rattle.machine.specs.resolved_tree.Trees.{Tree, Code, Incomplete, Private, TypeDecl, Subtype, ConstrainedSubtype, Objects, Numbers, Instance, SubDecl, Package, When, NoMore, More, code_items}
 use Rattle.machine.specs.resolved_tree.Trees as resolved
 use Rattle.machine.specs.type_definitions.declared.table.Entry.{Entry}
 use Rattle.machine.specs.type_definitions.declared.table.Entry.TheVariants as entry
@@ -28,12 +28,12 @@ use Rattle.soundness.proofs.TypedLaws.Agreeing.{nil_left, nil_right}
 use Rattle.soundness.specs.TypedLaws.TypedPoints.Meant.{IsMeantCode, AreAlternatives}
 use Rattle.soundness.proofs.TypedLaws.TypedPoints.Flags.{flagged}
 use Rattle.soundness.proofs.TypedLaws.TypedPoints.Statements.{parameter_scalar}
-use Rattle.settled_types.proofs.OrderLaws.ScopeLaws.Lists.{and_first, and_second, both_true, all_both}
-use Rattle.settled_types.specs.OrderLaws.Written.{is_declaration, are_declarations, are_statements, is_statement, are_branches, is_branch, are_alternatives, is_alternative}
+use Rattle.settled_types.proofs.OrderLaws.ScopeLaws.Lists.{both_true, all_both}
+use Rattle.settled_types.specs.OrderLaws.Written.{is_declaration, are_declarations, are_statements}
 use Rattle.sound_files.specs.MeantFiles.Denoted.{AreDenoted}
 use Rattle.sound_files.specs.MeantFiles.Typed.{AreTyped}
 use Rattle.accepted_runs.specs.ViewedFiles.Sources.{has_source, all_fit}
-use Rattle.accepted_runs.proofs.ViewedFiles.Grammar.{on_declarations}
+use Rattle.settled_types.proofs.OrderLaws.Grammar.{on_declarations, StatementLaws, on_statements}
 use Rattle.accepted_runs.proofs.ViewedFiles.Sources as source
 use Rattle.accepted_runs.proofs.ViewedFiles.Sources.{IsLocalView, DeclaresPlain, scalar_plain}
 
@@ -167,59 +167,61 @@ module _ (s : Site) (objects : List Object) (subs : List Signature) (made : ℕ 
       (later (n + scope_count c) meant.1 (nil_right (code_faults z c) (code_faults z rest) none)))
       (λ n meant none. tt) c e n
 
-  mutual
-    unfolding statements objects_in IsMeantCode AreAlternatives AreDenoted AreTyped code_faults alternatives_faults alternative_faults all_fit are_statements is_statement are_branches is_branch are_alternatives is_alternative
+  -- The formals of what is called, and what the rules ask of code, are given; the loop that the rules know of may not be one
+  -- that the grammar knows of.
+  abbrev GoesAll : Bool → Code → Type 0
+  GoesAll inside c = (looped : Bool) (a n m : ℕ) → Goes looped a n m c
 
-    pub statements_went : (looped inside : Bool) (a n m : ℕ) (c : Code) → are_statements inside c ≡ true → Goes looped a n m c
-    statements_went looped inside a n m (More c rest) e =
-        λ roots meant are none.
-        let z : Context = flagged looped s.context.starts s.context in
-        went_both a n (n + scope_count c) m (m + scope_count c) c rest
-        (one_went looped inside a n m c (and_first (is_statement inside c) (are_statements inside rest) e) roots.0 meant.0 are.0 (nil_left (code_faults z c) (code_faults z rest) none))
-        (statements_went looped inside a (n + scope_count c) (m + scope_count c) rest (and_second (is_statement inside c) (are_statements inside rest) e) roots.1 meant.1 are.1
-        (nil_right (code_faults z c) (code_faults z rest) none))
-    statements_went looped inside a n m NoMore e = λ roots meant are none. (tt, tt)
-    statements_went looped inside a n m _ e = absurd (false≢true e)
+  abbrev AlternativesGo : Bool → Code → Type 0
+  AlternativesGo inside c = (looped : Bool) (a n m t : ℕ) → Rooted c → AreAlternatives s y made c → AreTyped made s.context c
+      → alternatives_faults (flagged looped s.context.starts s.context) t c ≡ [] → Went a n m c
 
-    one_went : (looped inside : Bool) (a n m : ℕ) (c : Code) → is_statement inside c ≡ true → Goes looped a n m c
-    one_went looped inside a n m (Skip p) e = λ roots meant are none. ((refl, tt), tt)
-    one_went looped inside a n m (Assign target v) e =
-        λ roots meant are none.
-        let z : Context = flagged looped s.context.starts s.context in
-        ((source.assign_fit s objects subs made laws looped s.context.starts target v roots.0 meant.0 meant.1 (nil_left (target_faults z target) _ none) (nil_right (target_faults z target) _ none), tt), tt)
-    one_went looped inside a n m (Call name) e = λ roots meant are none. ((call_fits name, tt), tt)
-    one_went looped inside a n m (Exit p when) e = λ roots meant are none. ((refl, tt), tt)
-    one_went looped inside a n m (Return p v) e = λ roots meant are none. ((refl, tt), tt)
-    one_went looped inside a n m (If p branches otherwise) e =
-        λ roots meant are none.
-        let z : Context = flagged looped s.context.starts s.context in
-        let first = branches_went looped inside a n m branches (and_first (are_branches inside branches) (are_statements inside otherwise) e) roots.0 meant.0 are.0 (nil_left (code_faults z branches) (code_faults z otherwise) none) in
-        let second = statements_went looped inside a (n + scope_count branches) (m + scope_count branches) otherwise (and_second (are_branches inside branches) (are_statements inside otherwise) e) roots.1 meant.1 are.1
-        (nil_right (code_faults z branches) (code_faults z otherwise) none) in (
+  abbrev AlternativeGoes : Bool → Code → Type 0
+  AlternativeGoes inside c = (rest : Code) → AlternativesGo inside rest → AlternativesGo inside (More c rest)
+
+  list_goes : (inside : Bool) (c rest : Code) → GoesAll inside c → GoesAll inside rest → GoesAll inside (More c rest)
+  unfolding statements objects_in IsMeantCode AreDenoted AreTyped code_faults
+  list_goes inside c rest one more looped a n m roots meant are none =
+      let z : Context = flagged looped s.context.starts s.context in
+      went_both a n (n + scope_count c) m (m + scope_count c) c rest
+      (one looped a n m roots.0 meant.0 are.0 (nil_left (code_faults z c) (code_faults z rest) none))
+      (more looped a (n + scope_count c) (m + scope_count c) roots.1 meant.1 are.1 (nil_right (code_faults z c) (code_faults z rest) none))
+
+  went_laws : StatementLaws GoesAll GoesAll AlternativesGo AlternativeGoes
+  unfolding statements objects_in IsMeantCode AreAlternatives AreDenoted AreTyped code_faults alternatives_faults alternative_faults all_fit
+  went_laws = record {
+    list = list_goes;
+    none = λ inside looped a n m roots meant are none. (tt, tt);
+    skip = λ inside p looped a n m roots meant are none. ((refl, tt), tt);
+    assign = λ inside target v looped a n m roots meant are none.
+        (let z : Context = flagged looped s.context.starts s.context in
+        ((source.assign_fit s objects subs made laws looped s.context.starts target v roots.0 meant.0 meant.1 (nil_left (target_faults z target) _ none) (nil_right (target_faults z target) _ none), tt), tt));
+    call = λ inside name looped a n m roots meant are none. ((call_fits name, tt), tt);
+    exit = λ inside p when e looped a n m roots meant are none. ((refl, tt), tt);
+    return = λ inside p v looped a n m roots meant are none. ((refl, tt), tt);
+    choice = λ inside p branches otherwise one more looped a n m roots meant are none.
+        (let z : Context = flagged looped s.context.starts s.context in
+        let first = one looped a n m roots.0 meant.0 are.0 (nil_left (code_faults z branches) (code_faults z otherwise) none) in
+        let second = more looped a (n + scope_count branches) (m + scope_count branches) roots.1 meant.1 are.1 (nil_right (code_faults z branches) (code_faults z otherwise) none) in (
           (
             both_true (all_fit (has_source y) (typed_code_list (statements s n branches))) (all_fit (has_source y) (typed_code_list (statements s (n + scope_count branches) otherwise)))
                 (listed (statements s n branches) first.0) (listed (statements s (n + scope_count branches) otherwise) second.0),
             tt,
           ),
           all_both (IsLocalView table) (objects_in units h a m branches) (objects_in units h a (m + scope_count branches) otherwise) first.1 second.1,
-        )
-    one_went looped inside a n m (Case p v whens) e =
-        λ roots meant are none.
-        let z : Context = flagged looped s.context.starts s.context in
+        ));
+    cases = λ inside p v whens one looped a n m roots meant are none.
+        (let z : Context = flagged looped s.context.starts s.context in
         let more = nil_right (selector_faults z v) _ none in
-        let first = alternatives_went looped inside a n m (type_or_integer (own_type z v)) whens e roots.1 meant.1 are (nil_right (coverage z p v (choices_of whens)) _ more) in
-        ((listed (statements s n whens) first.0, tt), first.1)
-    one_went looped inside a n m (Loop p stmts) e =
-        λ roots meant are none.
-        let first = statements_went true true a n m stmts e roots meant are none in ((listed (statements s n stmts) first.0, tt), first.1)
-    one_went looped inside a n m (While p v stmts) e =
-        λ roots meant are none.
-        let z : Context = flagged looped s.context.starts s.context in
-        let first = statements_went true true a n m stmts e roots.1 meant.1 are (nil_right (faults z stands.Elsewhere boolean v) _ none) in ((listed (statements s n stmts) first.0, tt), first.1)
-    one_went looped inside a n m (For p d reversed range stmts) e =
-        λ roots meant are none.
-        let z : Context = flagged looped s.context.starts s.context in
-        let first = statements_went true true m (n + 1) (m + 1) stmts e roots.2 meant.2 are.1 (nil_right (range_faults z range) _ none) in
+        let first = one looped a n m (type_or_integer (own_type z v)) roots.1 meant.1 are (nil_right (coverage z p v (choices_of whens)) _ more) in
+        ((listed (statements s n whens) first.0, tt), first.1));
+    loop = λ inside p stmts one looped a n m roots meant are none. (let first = one true a n m roots meant are none in ((listed (statements s n stmts) first.0, tt), first.1));
+    while = λ inside p v stmts one looped a n m roots meant are none.
+        (let z : Context = flagged looped s.context.starts s.context in
+        let first = one true a n m roots.1 meant.1 are (nil_right (faults z stands.Elsewhere boolean v) _ none) in ((listed (statements s n stmts) first.0, tt), first.1));
+    for = λ inside p d reversed range stmts one looped a n m roots meant are none.
+        (let z : Context = flagged looped s.context.starts s.context in
+        let first = one true m (n + 1) (m + 1) roots.2 meant.2 are.1 (nil_right (range_faults z range) _ none) in
         let scalar : is_scalar (full table (parameter_type s.context range)) ≡ true =
         parameter_scalar s objects subs made laws looped s.context.starts range meant.0 (nil_left (range_faults z range) _ none) in (
           (listed (statements s (n + 1) stmts) first.0, tt),
@@ -228,51 +230,34 @@ module _ (s : Site) (objects : List Object) (subs : List Signature) (made : ℕ 
                 (scalar_plain (full table (parameter_type s.context range)) scalar),
             first.1,
           ),
-        )
-    one_went looped inside a n m (Block p items stmts end) e =
-        λ roots meant are none.
-        let z : Context = flagged looped s.context.starts s.context in
+        ));
+    block = λ inside p items stmts end declares one looped a n m roots meant are none.
+        (let z : Context = flagged looped s.context.starts s.context in
         let k : ℕ = n + 1 + scope_count items in
         let l : ℕ = m + 1 + scope_count items in
         let whole = went_both m (n + 1) k (m + 1) l items stmts
-        (declarations_went looped m (n + 1) (m + 1) items (and_first (are_declarations items) (are_statements inside stmts) e) meant.0 are.0 (nil_left (code_faults z items) (code_faults z stmts) none))
-        (statements_went looped inside m k l stmts (and_second (are_declarations items) (are_statements inside stmts) e) roots.1 meant.1 are.1 (nil_right (code_faults z items) (code_faults z stmts) none)) in
-        ((listed (statements s (n + 1) items ++ statements s k stmts) whole.0, tt), whole.1)
-    one_went looped inside a n m NoMore e = λ roots meant are none. (tt, tt)
-    one_went looped inside a n m _ e = absurd (false≢true e)
-
-    branches_went : (looped inside : Bool) (a n m : ℕ) (c : Code) → are_branches inside c ≡ true → Goes looped a n m c
-    branches_went looped inside a n m (More c rest) e =
-        λ roots meant are none.
-        let z : Context = flagged looped s.context.starts s.context in
-        went_both a n (n + scope_count c) m (m + scope_count c) c rest
-        (branch_went looped inside a n m c (and_first (is_branch inside c) (are_branches inside rest) e) roots.0 meant.0 are.0 (nil_left (code_faults z c) (code_faults z rest) none))
-        (branches_went looped inside a (n + scope_count c) (m + scope_count c) rest (and_second (is_branch inside c) (are_branches inside rest) e) roots.1 meant.1 are.1
-        (nil_right (code_faults z c) (code_faults z rest) none))
-    branches_went looped inside a n m NoMore e = λ roots meant are none. (tt, tt)
-    branches_went looped inside a n m _ e = absurd (false≢true e)
-
-    branch_went : (looped inside : Bool) (a n m : ℕ) (c : Code) → is_branch inside c ≡ true → Goes looped a n m c
-    branch_went looped inside a n m (Branch p v stmts) e =
-        λ roots meant are none.
-        let z : Context = flagged looped s.context.starts s.context in
-        let first = statements_went looped inside a n m stmts e roots.1 meant.1 are (nil_right (faults z stands.Elsewhere boolean v) _ none) in ((listed (statements s n stmts) first.0, tt), first.1)
-    branch_went looped inside a n m NoMore e = λ roots meant are none. (tt, tt)
-    branch_went looped inside a n m _ e = absurd (false≢true e)
-
-    alternatives_went : (looped inside : Bool) (a n m t : ℕ) (c : Code) → are_alternatives inside c ≡ true → Rooted c → AreAlternatives s y made c → AreTyped made s.context c
-        → alternatives_faults (flagged looped s.context.starts s.context) t c ≡ [] → Went a n m c
-    alternatives_went looped inside a n m t (More (When choices stmts) rest) e roots meant are none =
-        let z : Context = flagged looped s.context.starts s.context in
+        (declarations_went looped m (n + 1) (m + 1) items declares meant.0 are.0 (nil_left (code_faults z items) (code_faults z stmts) none))
+        (one looped m k l roots.1 meant.1 are.1 (nil_right (code_faults z items) (code_faults z stmts) none)) in
+        ((listed (statements s (n + 1) items ++ statements s k stmts) whole.0, tt), whole.1));
+    branches = list_goes;
+    no_branches = λ inside looped a n m roots meant are none. (tt, tt);
+    branch = λ inside p v stmts one looped a n m roots meant are none.
+        (let z : Context = flagged looped s.context.starts s.context in
+        let first = one looped a n m roots.1 meant.1 are (nil_right (faults z stands.Elsewhere boolean v) _ none) in ((listed (statements s n stmts) first.0, tt), first.1));
+    alternatives = λ inside c rest one more. one rest more;
+    no_alternatives = λ inside looped a n m t roots meant are none. (tt, tt);
+    alternative = λ inside choices stmts one rest more looped a n m t roots meant are none.
+        (let z : Context = flagged looped s.context.starts s.context in
         let here = alternative_faults z t (is_last rest) (When choices stmts) in
         let before = choices_faults z t (is_one_choice (code_items choices) && is_last rest) choices in
-        let first = statements_went looped inside a n m stmts (and_first (are_statements inside stmts) (are_alternatives inside rest) e) roots.0 meant.0 are.0
-        (nil_right before _ (nil_left here (alternatives_faults z t rest) none)) in
+        let first = one looped a n m roots.0 meant.0 are.0 (nil_right before _ (nil_left here (alternatives_faults z t rest) none)) in
         went_both a n (n + scope_count (When choices stmts)) m (m + scope_count (When choices stmts)) (When choices stmts) rest ((listed (statements s n stmts) first.0, tt), first.1)
-        (alternatives_went looped inside a (n + scope_count (When choices stmts)) (m + scope_count (When choices stmts)) t rest (and_second (are_statements inside stmts) (are_alternatives inside rest) e)
-        roots.1 meant.1 are.1 (nil_right here (alternatives_faults z t rest) none))
-    alternatives_went looped inside a n m t NoMore e roots meant are none = (tt, tt)
-    alternatives_went looped inside a n m t c e roots meant are none = absurd meant
+        (more looped a (n + scope_count (When choices stmts)) (m + scope_count (When choices stmts)) t roots.1 meant.1 are.1 (nil_right here (alternatives_faults z t rest) none)));
+    no_alternative = λ inside rest more looped a n m t roots meant are none. absurd meant;
+  }
+
+  pub statements_went : (looped inside : Bool) (a n m : ℕ) (c : Code) → are_statements inside c ≡ true → Goes looped a n m c
+  statements_went looped inside a n m c e = on_statements went_laws inside c e looped a n m
 
   -- ---- bodies
 

@@ -2,7 +2,7 @@
 use Rattle.std.proofs.Common.{◌≡◌, refl, ℕ, ◌+◌, Bool, true, false, ◌&&◌, ◌||◌, List, [], ◌∷◌, ◌++◌, map}
 use Rattle.std.specs.List.{AllByRecursion}
 use Rattle.std.proofs.lemmas.Bool.{false≢true}
-use Rattle.machine.specs.resolved_tree.Trees.{Tree, Code, Incomplete, Private, TypeDecl, Subtype, ConstrainedSubtype, Objects, Numbers, Instance, SubDecl, Package, Skip, Assign, Call, Exit, Return, If, Branch, Case, When, Loop, While, For, Block, NoMore, More, code_items}
+use Rattle.machine.specs.resolved_tree.Trees.{Tree, Code, Incomplete, Private, TypeDecl, Subtype, ConstrainedSubtype, Objects, Numbers, Instance, SubDecl, Package, NoMore, More, code_items}
 use Rattle.machine.specs.resolved_tree.Trees as resolved
 use Rattle.machine.specs.type_definitions.declared.table.Entry.{Entry}
 use Rattle.machine.specs.type_definitions.declared.table.Entry.TheVariants as entry
@@ -20,8 +20,9 @@ use Rattle.machine.specs.flow_paths.Scopes as flow
 use Rattle.settled_types.specs.OrderLaws.ScopeLaws.Code.{is_formed}
 use Rattle.settled_types.specs.OrderLaws.ScopeLaws.Code as scope
 use Rattle.settled_types.proofs.OrderLaws.ScopeLaws.Lists.{and_first, and_second, both_true, all_both}
-use Rattle.settled_types.specs.OrderLaws.Written.{is_declaration, are_declarations, are_statements, is_statement, are_branches, is_branch, are_alternatives, is_alternative}
+use Rattle.settled_types.specs.OrderLaws.Written.{is_declaration, are_declarations, are_statements, are_alternatives}
 use Rattle.settled_types.specs.OrderLaws.Placed.{is_placed, are_placed_branches, is_placed_branch, are_placed_alternatives, is_placed_alternative}
+use Rattle.settled_types.proofs.OrderLaws.Grammar.{StatementLaws, on_statements}
 
 -- ---- declarations
 
@@ -160,69 +161,46 @@ list_alternatives looped (c ∷ cs) h =
       both_true (scope.is_formed_alternative looped c) (scope.are_alternatives looped (typed_code_list cs)) h.0.1 more.1,
     )
 
-mutual
-  unfolding statements are_statements is_statement are_branches is_branch are_alternatives is_alternative is_undeclaring is_placed is_placed_branch is_placed_alternative is_formed scope.are_alternatives scope.is_formed_alternative
+abbrev IsWrittenCode : Bool → Code → Type 0
+IsWrittenCode looped c = (s : Site) (n : ℕ) → Written looped (statements s n c)
 
-  pub all_written : (s : Site) (n : ℕ) (looped : Bool) (c : Code) → are_statements looped c ≡ true → Written looped (statements s n c)
-  all_written s n looped (More a rest) h =
-      all_both (IsWritten looped) (statements s n a) (statements s (n + scope_count a) rest)
-      (one_written s n looped a (and_first (is_statement looped a) (are_statements looped rest) h))
-      (all_written s (n + scope_count a) looped rest (and_second (is_statement looped a) (are_statements looped rest) h))
-  all_written s n looped NoMore h = tt
-  all_written s n looped _ h = absurd (false≢true h)
+abbrev AreBranches : Bool → Code → Type 0
+AreBranches looped c = (s : Site) (n : ℕ) → AllByRecursion (IsBranch looped) (statements s n c)
 
-  one_written : (s : Site) (n : ℕ) (looped : Bool) (c : Code) → is_statement looped c ≡ true → Written looped (statements s n c)
-  one_written s n looped (Skip p) h = ((refl, refl, refl), tt)
-  one_written s n looped (Assign target e) h = ((refl, refl, refl), tt)
-  one_written s n looped (Call name) h = (call_written s looped name, tt)
-  one_written s n looped (Exit p when) h = ((refl, refl, h), tt)
-  one_written s n looped (Return p v) h = ((refl, refl, refl), tt)
-  one_written s n looped (If p branches otherwise) h =
-      let whole = both_inner looped (statements s n branches) (statements s (n + scope_count branches) otherwise)
-      (branches_written s n looped branches (and_first (are_branches looped branches) (are_statements looped otherwise) h))
-      (all_written s (n + scope_count branches) looped otherwise (and_second (are_branches looped branches) (are_statements looped otherwise) h)) in
-      ((refl, whole.0, whole.1), tt)
-  one_written s n looped (Case p e whens) h = (let first = list_alternatives looped (statements s n whens) (alternatives_written s n looped whens h) in ((refl, first.0, first.1), tt))
-  one_written s n looped (Loop p stmts) h = (let first = inner true (statements s n stmts) (all_written s n true stmts h) in ((refl, first.0, first.1), tt))
-  one_written s n looped (While p e stmts) h =
-      (let first = inner true (statements s n stmts) (all_written s n true stmts h) in ((refl, first.0, first.1), tt))
-  one_written s n looped (For p d reversed range stmts) h =
-      (let first = inner true (statements s (n + 1) stmts) (all_written s (n + 1) true stmts h) in ((refl, first.0, first.1), tt))
-  one_written s n looped (Block p items stmts end) h =
-      let whole = body_written looped (statements s (n + 1) items) (statements s (n + 1 + scope_count items) stmts)
-      (all_declare s (n + 1) items (and_first (are_declarations items) (are_statements looped stmts) h))
-      (all_written s (n + 1 + scope_count items) looped stmts (and_second (are_declarations items) (are_statements looped stmts) h)) in
-      ((refl, whole.0, whole.1), tt)
-  one_written s n looped NoMore h = tt
-  one_written s n looped _ h = absurd (false≢true h)
+abbrev AreAlternatives : Bool → Code → Type 0
+AreAlternatives looped c = (s : Site) (n : ℕ) → AllByRecursion (IsAlternative looped) (statements s n c)
 
-  branches_written : (s : Site) (n : ℕ) (looped : Bool) (c : Code) → are_branches looped c ≡ true → AllByRecursion (IsBranch looped) (statements s n c)
-  branches_written s n looped (More a rest) h =
-      all_both (IsBranch looped) (statements s n a) (statements s (n + scope_count a) rest)
-      (branch_written s n looped a (and_first (is_branch looped a) (are_branches looped rest) h))
-      (branches_written s (n + scope_count a) looped rest (and_second (is_branch looped a) (are_branches looped rest) h))
-  branches_written s n looped NoMore h = tt
-  branches_written s n looped _ h = absurd (false≢true h)
+written_laws : StatementLaws IsWrittenCode AreBranches AreAlternatives AreAlternatives
+unfolding statements is_undeclaring is_placed is_placed_branch is_placed_alternative is_formed scope.are_alternatives scope.is_formed_alternative
+written_laws = record {
+  list = λ looped c rest one more s n. all_both (IsWritten looped) (statements s n c) (statements s (n + scope_count c) rest) (one s n) (more s (n + scope_count c));
+  none = λ looped s n. tt;
+  skip = λ looped p s n. ((refl, refl, refl), tt);
+  assign = λ looped target v s n. ((refl, refl, refl), tt);
+  call = λ looped name s n. (call_written s looped name, tt);
+  exit = λ looped p when e s n. ((refl, refl, e), tt);
+  return = λ looped p v s n. ((refl, refl, refl), tt);
+  choice = λ looped p branches otherwise one more s n.
+      (let whole = both_inner looped (statements s n branches) (statements s (n + scope_count branches) otherwise) (one s n) (more s (n + scope_count branches)) in
+      ((refl, whole.0, whole.1), tt));
+  cases = λ looped p v whens one s n. (let first = list_alternatives looped (statements s n whens) (one s n) in ((refl, first.0, first.1), tt));
+  loop = λ looped p stmts one s n. (let first = inner true (statements s n stmts) (one s n) in ((refl, first.0, first.1), tt));
+  while = λ looped p v stmts one s n. (let first = inner true (statements s n stmts) (one s n) in ((refl, first.0, first.1), tt));
+  for = λ looped p d reversed range stmts one s n. (let first = inner true (statements s (n + 1) stmts) (one s (n + 1)) in ((refl, first.0, first.1), tt));
+  block = λ looped p items stmts end declares one s n.
+      (let whole = body_written looped (statements s (n + 1) items) (statements s (n + 1 + scope_count items) stmts) (all_declare s (n + 1) items declares) (one s (n + 1 + scope_count items)) in
+      ((refl, whole.0, whole.1), tt));
+  branches = λ looped c rest one more s n. all_both (IsBranch looped) (statements s n c) (statements s (n + scope_count c) rest) (one s n) (more s (n + scope_count c));
+  no_branches = λ looped s n. tt;
+  branch = λ looped p v stmts one s n. (let first = inner looped (statements s n stmts) (one s n) in ((first.0, first.1), tt));
+  alternatives = λ looped c rest one more s n. all_both (IsAlternative looped) (statements s n c) (statements s (n + scope_count c) rest) (one s n) (more s (n + scope_count c));
+  no_alternatives = λ looped s n. tt;
+  alternative = λ looped choices stmts one s n. (let first = inner looped (statements s n stmts) (one s n) in ((first.0, first.1), tt));
+  no_alternative = λ looped s n. tt;
+}
 
-  branch_written : (s : Site) (n : ℕ) (looped : Bool) (c : Code) → is_branch looped c ≡ true → AllByRecursion (IsBranch looped) (statements s n c)
-  branch_written s n looped (Branch p e stmts) h =
-      (let first = inner looped (statements s n stmts) (all_written s n looped stmts h) in ((first.0, first.1), tt))
-  branch_written s n looped NoMore h = tt
-  branch_written s n looped _ h = absurd (false≢true h)
-
-  alternatives_written : (s : Site) (n : ℕ) (looped : Bool) (c : Code) → are_alternatives looped c ≡ true → AllByRecursion (IsAlternative looped) (statements s n c)
-  alternatives_written s n looped (More a rest) h =
-      all_both (IsAlternative looped) (statements s n a) (statements s (n + scope_count a) rest)
-      (alternative_written s n looped a (and_first (is_alternative looped a) (are_alternatives looped rest) h))
-      (alternatives_written s (n + scope_count a) looped rest (and_second (is_alternative looped a) (are_alternatives looped rest) h))
-  alternatives_written s n looped NoMore h = tt
-  alternatives_written s n looped _ h = absurd (false≢true h)
-
-  alternative_written : (s : Site) (n : ℕ) (looped : Bool) (c : Code) → is_alternative looped c ≡ true → AllByRecursion (IsAlternative looped) (statements s n c)
-  alternative_written s n looped (When choices stmts) h =
-      (let first = inner looped (statements s n stmts) (all_written s n looped stmts h) in ((first.0, first.1), tt))
-  alternative_written s n looped NoMore h = tt
-  alternative_written s n looped _ h = absurd (false≢true h)
+pub all_written : (s : Site) (n : ℕ) (looped : Bool) (c : Code) → are_statements looped c ≡ true → Written looped (statements s n c)
+all_written s n looped c e = on_statements written_laws looped c e s n
 
 -- ---- bodies
 

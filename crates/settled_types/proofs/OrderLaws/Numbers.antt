@@ -5,7 +5,7 @@ use Rattle.std.proofs.lemmas.List.{append_assoc}
 use Rattle.std.proofs.lemmas.Bool.{false≢true}
 use Rattle.machine.specs.place_names.declared.act.Mode.{Mode}
 use Rattle.machine.specs.place_names.declared.act.Mode.TheVariants as mode
-use Rattle.machine.specs.resolved_tree.Trees.{Tree, Code, Incomplete, Private, TypeDecl, Subtype, ConstrainedSubtype, Objects, Numbers, Instance, Formals, SubDecl, Package, Skip, Assign, Call, Exit, Return, If, Branch, Case, When, Loop, While, For, Block, NoMore, More, code_items}
+use Rattle.machine.specs.resolved_tree.Trees.{Tree, Code, Incomplete, Private, TypeDecl, Subtype, ConstrainedSubtype, Objects, Numbers, Instance, Formals, SubDecl, Package, If, Branch, Case, When, Loop, While, For, Block, NoMore, More, code_items}
 use Rattle.machine.specs.resolved_tree.Trees as resolved
 use Rattle.machine.specs.type_definitions.declared.table.Entry.{Entry}
 use Rattle.machine.specs.type_definitions.declared.table.Entry.TheVariants as entry
@@ -20,8 +20,8 @@ use Rattle.machine.specs.typed_tree.Expressions.{Site, object_number, typed_expr
 use Rattle.machine.specs.typed_tree.Statements.{scope_count, statements, typed_object, typed_call, call_of, predefined_call, typed_range, typed_choices, typed_body}
 use Rattle.machine.specs.typed_tree.Programs.{DeclaredObject, Home, objects_in, object_of, formals_of, formal_numbers}
 use Rattle.machine.specs.flow_paths.Laid.{declared_within}
-use Rattle.settled_types.proofs.OrderLaws.ScopeLaws.Lists.{and_first, and_second}
-use Rattle.settled_types.specs.OrderLaws.Written.{is_declaration, are_declarations, are_statements, is_statement, are_branches, is_branch, are_alternatives, is_alternative}
+use Rattle.settled_types.specs.OrderLaws.Written.{is_declaration, are_declarations, are_statements}
+use Rattle.settled_types.proofs.OrderLaws.Grammar.{on_declarations, StatementLaws, on_statements}
 
 -- ---- the numbers of declarations
 
@@ -102,89 +102,68 @@ module _ (s : Site) where
     one_declaration a n m _ e = absurd (false≢true e)
 
     pub declarations_same : (a n m : ℕ) (c : Code) → are_declarations c ≡ true → IsSame a n m c
-    unfolding statements objects_in are_declarations declared_within
-    declarations_same a n m (More c rest) e =
-        two (statements s n c) (statements s (n + scope_count c) rest) (objects_in units h a m c) (objects_in units h a (m + scope_count c) rest)
-        (one_declaration a n m c (and_first (is_declaration c) (are_declarations rest) e))
-        (declarations_same a (n + scope_count c) (m + scope_count c) rest (and_second (is_declaration c) (are_declarations rest) e))
-    declarations_same a n m NoMore e = refl
-    declarations_same a n m _ e = absurd (false≢true e)
+    unfolding statements objects_in declared_within
+    declarations_same a n m c e =
+        on_declarations (λ c. (n m : ℕ) → IsSame a n m c)
+        (λ c rest one more n m. two (statements s n c) (statements s (n + scope_count c) rest) (objects_in units h a m c) (objects_in units h a (m + scope_count c) rest)
+        (one_declaration a n m c one) (more (n + scope_count c) (m + scope_count c)))
+        (λ n m. refl) c e n m
 
     alone : (c : TypedCode) (xs : List ℕ) → declared_within c ≡ xs → declared_in (c ∷ []) ≡ xs
     alone c xs e = declared_one c ∙ e
 
-    mutual
-      unfolding statements objects_in declared_within are_statements is_statement are_branches is_branch are_alternatives is_alternative
+    abbrev IsSameCode : Bool → Code → Type 0
+    IsSameCode looped c = (a n m : ℕ) → IsSame a n m c
 
-      pub statements_same : (a n m : ℕ) (looped : Bool) (c : Code) → are_statements looped c ≡ true → IsSame a n m c
-      statements_same a n m looped (More c rest) e =
-          two (statements s n c) (statements s (n + scope_count c) rest) (objects_in units h a m c) (objects_in units h a (m + scope_count c) rest)
-          (one_same a n m looped c (and_first (is_statement looped c) (are_statements looped rest) e))
-          (statements_same a (n + scope_count c) (m + scope_count c) looped rest (and_second (is_statement looped c) (are_statements looped rest) e))
-      statements_same a n m looped NoMore e = refl
-      statements_same a n m looped _ e = absurd (false≢true e)
+    list_same : (looped : Bool) (c rest : Code) → IsSameCode looped c → IsSameCode looped rest → IsSameCode looped (More c rest)
+    unfolding statements objects_in declared_within
+    list_same looped c rest one more a n m =
+        two (statements s n c) (statements s (n + scope_count c) rest) (objects_in units h a m c) (objects_in units h a (m + scope_count c) rest)
+        (one a n m) (more a (n + scope_count c) (m + scope_count c))
 
-      one_same : (a n m : ℕ) (looped : Bool) (c : Code) → is_statement looped c ≡ true → IsSame a n m c
-      one_same a n m looped (Skip p) e = refl
-      one_same a n m looped (Assign target v) e = refl
-      one_same a n m looped (Call name) e = alone (typed_call s name) [] (call_declared name)
-      one_same a n m looped (Exit p when) e = refl
-      one_same a n m looped (Return p v) e = refl
-      one_same a n m looped (If p branches otherwise) e =
+    same_laws : StatementLaws IsSameCode IsSameCode IsSameCode IsSameCode
+    unfolding statements objects_in declared_within
+    same_laws = record {
+      list = list_same;
+      none = λ looped a n m. refl;
+      skip = λ looped p a n m. refl;
+      assign = λ looped target v a n m. refl;
+      call = λ looped name a n m. alone (typed_call s name) [] (call_declared name);
+      exit = λ looped p when e a n m. refl;
+      return = λ looped p v a n m. refl;
+      choice = λ looped p branches otherwise one more a n m.
           alone (typed.If (typed_code_list (statements s n branches)) (typed_code_list (statements s (n + scope_count branches) otherwise)))
           (numbers (objects_in units h a m branches ++ objects_in units h a (m + scope_count branches) otherwise))
-          (ap (λ xs. xs ++ declared_in (statements s (n + scope_count branches) otherwise))
-          (branches_same a n m looped branches (and_first (are_branches looped branches) (are_statements looped otherwise) e))
-          ∙ ap (λ xs. numbers (objects_in units h a m branches) ++ xs)
-          (statements_same a (n + scope_count branches) (m + scope_count branches) looped otherwise (and_second (are_branches looped branches) (are_statements looped otherwise) e))
-          ∙ sym (numbers_both (objects_in units h a m branches) (objects_in units h a (m + scope_count branches) otherwise)))
-      one_same a n m looped (Case p v whens) e =
-          alone (typed.Case p (typed_expression s integer v) (typed_code_list (statements s n whens))) (numbers (objects_in units h a m whens)) (alternatives_same a n m looped whens e)
-      one_same a n m looped (Loop p stmts) e =
-          alone (typed.Loop (typed_code_list (statements s n stmts))) (numbers (objects_in units h a m stmts)) (statements_same a n m true stmts e)
-      one_same a n m looped (While p v stmts) e =
-          alone (typed.While p (typed_expression s boolean v) (typed_code_list (statements s n stmts))) (numbers (objects_in units h a m stmts)) (statements_same a n m true stmts e)
-      one_same a n m looped (For p d reversed range stmts) e =
+          (ap (λ xs. xs ++ declared_in (statements s (n + scope_count branches) otherwise)) (one a n m)
+          ∙ ap (λ xs. numbers (objects_in units h a m branches) ++ xs) (more a (n + scope_count branches) (m + scope_count branches))
+          ∙ sym (numbers_both (objects_in units h a m branches) (objects_in units h a (m + scope_count branches) otherwise)));
+      cases = λ looped p v whens one a n m.
+          alone (typed.Case p (typed_expression s integer v) (typed_code_list (statements s n whens))) (numbers (objects_in units h a m whens)) (one a n m);
+      loop = λ looped p stmts one a n m. alone (typed.Loop (typed_code_list (statements s n stmts))) (numbers (objects_in units h a m stmts)) (one a n m);
+      while = λ looped p v stmts one a n m.
+          alone (typed.While p (typed_expression s boolean v) (typed_code_list (statements s n stmts))) (numbers (objects_in units h a m stmts)) (one a n m);
+      for = λ looped p d reversed range stmts one a n m.
           alone (typed.For p (object_number s (declared_number d)) reversed (typed_range s range).0 (typed_range s range).1 (typed_code_list (statements s (n + 1) stmts)))
           (object_number s (declared_number d) ∷ numbers (objects_in units h m (m + 1) stmts))
-          (ap (λ xs. object_number s (declared_number d) ∷ xs) (statements_same m (n + 1) (m + 1) true stmts e))
-      one_same a n m looped (Block p items stmts end) e =
+          (ap (λ xs. object_number s (declared_number d) ∷ xs) (one m (n + 1) (m + 1)));
+      block = λ looped p items stmts end declares one a n m.
           alone (typed.Block n (typed_code_list (statements s (n + 1) items ++ statements s (n + 1 + scope_count items) stmts)) end)
           (numbers (objects_in units h m (m + 1) items ++ objects_in units h m (m + 1 + scope_count items) stmts))
           (two (statements s (n + 1) items) (statements s (n + 1 + scope_count items) stmts) (objects_in units h m (m + 1) items)
-          (objects_in units h m (m + 1 + scope_count items) stmts)
-          (declarations_same m (n + 1) (m + 1) items (and_first (are_declarations items) (are_statements looped stmts) e))
-          (statements_same m (n + 1 + scope_count items) (m + 1 + scope_count items) looped stmts (and_second (are_declarations items) (are_statements looped stmts) e)))
-      one_same a n m looped NoMore e = refl
-      one_same a n m looped _ e = absurd (false≢true e)
+          (objects_in units h m (m + 1 + scope_count items) stmts) (declarations_same m (n + 1) (m + 1) items declares) (one m (n + 1 + scope_count items) (m + 1 + scope_count items)));
+      branches = list_same;
+      no_branches = λ looped a n m. refl;
+      branch = λ looped p v stmts one a n m.
+          alone (typed.Branch p (typed_expression s boolean v) (typed_code_list (statements s n stmts))) (numbers (objects_in units h a m stmts)) (one a n m);
+      alternatives = list_same;
+      no_alternatives = λ looped a n m. refl;
+      alternative = λ looped choices stmts one a n m.
+          alone (typed.When (typed_choices s.context choices) (typed_code_list (statements s n stmts))) (numbers (objects_in units h a m stmts)) (one a n m);
+      no_alternative = λ looped a n m. refl;
+    }
 
-      branches_same : (a n m : ℕ) (looped : Bool) (c : Code) → are_branches looped c ≡ true → IsSame a n m c
-      branches_same a n m looped (More c rest) e =
-          two (statements s n c) (statements s (n + scope_count c) rest) (objects_in units h a m c) (objects_in units h a (m + scope_count c) rest)
-          (branch_same a n m looped c (and_first (is_branch looped c) (are_branches looped rest) e))
-          (branches_same a (n + scope_count c) (m + scope_count c) looped rest (and_second (is_branch looped c) (are_branches looped rest) e))
-      branches_same a n m looped NoMore e = refl
-      branches_same a n m looped _ e = absurd (false≢true e)
-
-      branch_same : (a n m : ℕ) (looped : Bool) (c : Code) → is_branch looped c ≡ true → IsSame a n m c
-      branch_same a n m looped (Branch p v stmts) e =
-          alone (typed.Branch p (typed_expression s boolean v) (typed_code_list (statements s n stmts))) (numbers (objects_in units h a m stmts)) (statements_same a n m looped stmts e)
-      branch_same a n m looped NoMore e = refl
-      branch_same a n m looped _ e = absurd (false≢true e)
-
-      alternatives_same : (a n m : ℕ) (looped : Bool) (c : Code) → are_alternatives looped c ≡ true → IsSame a n m c
-      alternatives_same a n m looped (More c rest) e =
-          two (statements s n c) (statements s (n + scope_count c) rest) (objects_in units h a m c) (objects_in units h a (m + scope_count c) rest)
-          (alternative_same a n m looped c (and_first (is_alternative looped c) (are_alternatives looped rest) e))
-          (alternatives_same a (n + scope_count c) (m + scope_count c) looped rest (and_second (is_alternative looped c) (are_alternatives looped rest) e))
-      alternatives_same a n m looped NoMore e = refl
-      alternatives_same a n m looped _ e = absurd (false≢true e)
-
-      alternative_same : (a n m : ℕ) (looped : Bool) (c : Code) → is_alternative looped c ≡ true → IsSame a n m c
-      alternative_same a n m looped (When choices stmts) e =
-          alone (typed.When (typed_choices s.context choices) (typed_code_list (statements s n stmts))) (numbers (objects_in units h a m stmts)) (statements_same a n m looped stmts e)
-      alternative_same a n m looped NoMore e = refl
-      alternative_same a n m looped _ e = absurd (false≢true e)
+    pub statements_same : (a n m : ℕ) (looped : Bool) (c : Code) → are_statements looped c ≡ true → IsSame a n m c
+    statements_same a n m looped c e = on_statements same_laws looped c e a n m
 
     pub body_same : (a n m : ℕ) (items stmts : Code) → are_declarations items ≡ true → are_statements false stmts ≡ true
         → declared_within (typed_body s n items stmts) ≡ numbers (objects_in units h a m items ++ objects_in units h a (m + scope_count items) stmts)

@@ -7,7 +7,7 @@ use Rattle.std.proofs.lemmas.Bool.{false≢true}
 use Rattle.machine.specs.spark_base.Lists.{Has}
 use Rattle.spark_base.proofs.Lists.{Has-append_cases}
 use Rattle.machine.specs.spark_base.declared.position.Pos.{Pos}
-use Rattle.machine.specs.resolved_tree.Trees.{Code, Incomplete, Private, TypeDecl, Subtype, ConstrainedSubtype, Objects, Numbers, Instance, Formals, SubDecl, SubBody, Package, PackageBody, Skip, Assign, Call, Exit, Return, If, Branch, Case, When, Loop, While, For, Block, NoMore, More, code_items}
+use Rattle.machine.specs.resolved_tree.Trees.{Code, Incomplete, Private, TypeDecl, Subtype, ConstrainedSubtype, Objects, Numbers, Instance, Formals, SubDecl, SubBody, Package, PackageBody, NoMore, More, code_items}
 use Rattle.machine.specs.place_names.declared.act.Mode.{Mode}
 use Rattle.machine.specs.place_names.declared.act.Mode.TheVariants as mode
 use Rattle.machine.specs.type_definitions.Gathered.{in_hidden, in_subprogram, declared_number}
@@ -17,7 +17,8 @@ use Rattle.machine.specs.typed_tree.Statements.{scope_count, typed_body}
 use Rattle.machine.specs.typed_tree.Programs.{TypedSub, DeclaredObject, Home, objects_in, object_of, formals_of, front_formals, local, in_package, package_text, typed_sub, subs_in, placed, over_units}
 use Rattle.settled_types.specs.OrderLaws.ScopeLaws.Code as code
 use Rattle.settled_types.proofs.OrderLaws.ScopeLaws.Lists.{and_first, and_second, all_both}
-use Rattle.settled_types.specs.OrderLaws.Written.{is_declaration, are_declarations, are_statements, is_statement, are_branches, is_branch, are_alternatives, is_alternative, is_body, are_parts, is_procedure, is_unit}
+use Rattle.settled_types.specs.OrderLaws.Written.{is_declaration, are_declarations, are_statements, is_body, are_parts, is_procedure, is_unit}
+use Rattle.settled_types.proofs.OrderLaws.Grammar.{on_declarations, StatementLaws, on_statements}
 use Rattle.settled_types.proofs.OrderLaws.Numbers.{numbers, body_same, formals_same}
 use Rattle.settled_types.proofs.OrderLaws.Parts.{IsPart, part_whole, part_left, part_right}
 
@@ -51,75 +52,55 @@ module _ (units : List Code) (h : Home) (outside : h.identifier ≡ None) where
   declaration_local a n NoMore e = tt
   declaration_local a n _ e = absurd (false≢true e)
 
-  declarations_local : (a n : ℕ) (c : Code) → are_declarations c ≡ true → AreLocal (objects_in units h a n c)
-  unfolding objects_in are_declarations
-  declarations_local a n (More c rest) e =
-      both (objects_in units h a n c) (objects_in units h a (n + scope_count c) rest) (declaration_local a n c (and_first (is_declaration c) (are_declarations rest) e))
-      (declarations_local a (n + scope_count c) rest (and_second (is_declaration c) (are_declarations rest) e))
-  declarations_local a n NoMore e = tt
-  declarations_local a n _ e = absurd (false≢true e)
+  pub declarations_local : (a n : ℕ) (c : Code) → are_declarations c ≡ true → AreLocal (objects_in units h a n c)
+  unfolding objects_in
+  declarations_local a n c e =
+      on_declarations (λ c. (n : ℕ) → AreLocal (objects_in units h a n c))
+      (λ c rest one more n. both (objects_in units h a n c) (objects_in units h a (n + scope_count c) rest) (declaration_local a n c one) (more (n + scope_count c)))
+      (λ n. tt) c e n
 
-  mutual
-    unfolding objects_in are_statements is_statement are_branches is_branch are_alternatives is_alternative
+  abbrev IsLocalCode : Bool → Code → Type 0
+  IsLocalCode looped c = (a n : ℕ) → AreLocal (objects_in units h a n c)
 
-    statements_local : (a n : ℕ) (looped : Bool) (c : Code) → are_statements looped c ≡ true → AreLocal (objects_in units h a n c)
-    statements_local a n looped (More c rest) e =
-        both (objects_in units h a n c) (objects_in units h a (n + scope_count c) rest) (one_local a n looped c (and_first (is_statement looped c) (are_statements looped rest) e))
-        (statements_local a (n + scope_count c) looped rest (and_second (is_statement looped c) (are_statements looped rest) e))
-    statements_local a n looped NoMore e = tt
-    statements_local a n looped _ e = absurd (false≢true e)
+  list_local : (looped : Bool) (c rest : Code) → IsLocalCode looped c → IsLocalCode looped rest → IsLocalCode looped (More c rest)
+  unfolding objects_in
+  list_local looped c rest one more a n = both (objects_in units h a n c) (objects_in units h a (n + scope_count c) rest) (one a n) (more a (n + scope_count c))
 
-    one_local : (a n : ℕ) (looped : Bool) (c : Code) → is_statement looped c ≡ true → AreLocal (objects_in units h a n c)
-    one_local a n looped (If p branches otherwise) e =
-        both (objects_in units h a n branches) (objects_in units h a (n + scope_count branches) otherwise)
-        (branches_local a n looped branches (and_first (are_branches looped branches) (are_statements looped otherwise) e))
-        (statements_local a (n + scope_count branches) looped otherwise (and_second (are_branches looped branches) (are_statements looped otherwise) e))
-    one_local a n looped (Case p v whens) e = alternatives_local a n looped whens e
-    one_local a n looped (Loop p stmts) e = statements_local a n true stmts e
-    one_local a n looped (While p v stmts) e = statements_local a n true stmts e
-    one_local a n looped (For p d reversed range stmts) e = (outside, statements_local n (n + 1) true stmts e)
-    one_local a n looped (Block p items stmts end) e =
-        both (objects_in units h n (n + 1) items) (objects_in units h n (n + 1 + scope_count items) stmts)
-        (declarations_local n (n + 1) items (and_first (are_declarations items) (are_statements looped stmts) e))
-        (statements_local n (n + 1 + scope_count items) looped stmts (and_second (are_declarations items) (are_statements looped stmts) e))
-    one_local a n looped (Skip p) e = tt
-    one_local a n looped (Assign target v) e = tt
-    one_local a n looped (Call name) e = tt
-    one_local a n looped (Exit p when) e = tt
-    one_local a n looped (Return p v) e = tt
-    one_local a n looped NoMore e = tt
-    one_local a n looped _ e = absurd (false≢true e)
+  local_laws : StatementLaws IsLocalCode IsLocalCode IsLocalCode IsLocalCode
+  unfolding objects_in
+  local_laws = record {
+    list = list_local;
+    none = λ looped a n. tt;
+    skip = λ looped p a n. tt;
+    assign = λ looped target v a n. tt;
+    call = λ looped name a n. tt;
+    exit = λ looped p when e a n. tt;
+    return = λ looped p v a n. tt;
+    choice = λ looped p branches otherwise one more a n.
+        both (objects_in units h a n branches) (objects_in units h a (n + scope_count branches) otherwise) (one a n) (more a (n + scope_count branches));
+    cases = λ looped p v whens one. one;
+    loop = λ looped p stmts one. one;
+    while = λ looped p v stmts one. one;
+    for = λ looped p d reversed range stmts one a n. (outside, one n (n + 1));
+    block = λ looped p items stmts end declares one a n.
+        both (objects_in units h n (n + 1) items) (objects_in units h n (n + 1 + scope_count items) stmts) (declarations_local n (n + 1) items declares) (one n (n + 1 + scope_count items));
+    branches = list_local;
+    no_branches = λ looped a n. tt;
+    branch = λ looped p v stmts one. one;
+    alternatives = list_local;
+    no_alternatives = λ looped a n. tt;
+    alternative = λ looped choices stmts one. one;
+    no_alternative = λ looped a n. tt;
+  }
 
-    branches_local : (a n : ℕ) (looped : Bool) (c : Code) → are_branches looped c ≡ true → AreLocal (objects_in units h a n c)
-    branches_local a n looped (More c rest) e =
-        both (objects_in units h a n c) (objects_in units h a (n + scope_count c) rest) (branch_local a n looped c (and_first (is_branch looped c) (are_branches looped rest) e))
-        (branches_local a (n + scope_count c) looped rest (and_second (is_branch looped c) (are_branches looped rest) e))
-    branches_local a n looped NoMore e = tt
-    branches_local a n looped _ e = absurd (false≢true e)
-
-    branch_local : (a n : ℕ) (looped : Bool) (c : Code) → is_branch looped c ≡ true → AreLocal (objects_in units h a n c)
-    branch_local a n looped (Branch p v stmts) e = statements_local a n looped stmts e
-    branch_local a n looped NoMore e = tt
-    branch_local a n looped _ e = absurd (false≢true e)
-
-    alternatives_local : (a n : ℕ) (looped : Bool) (c : Code) → are_alternatives looped c ≡ true → AreLocal (objects_in units h a n c)
-    alternatives_local a n looped (More c rest) e =
-        both (objects_in units h a n c) (objects_in units h a (n + scope_count c) rest)
-        (alternative_local a n looped c (and_first (is_alternative looped c) (are_alternatives looped rest) e))
-        (alternatives_local a (n + scope_count c) looped rest (and_second (is_alternative looped c) (are_alternatives looped rest) e))
-    alternatives_local a n looped NoMore e = tt
-    alternatives_local a n looped _ e = absurd (false≢true e)
-
-    alternative_local : (a n : ℕ) (looped : Bool) (c : Code) → is_alternative looped c ≡ true → AreLocal (objects_in units h a n c)
-    alternative_local a n looped (When choices stmts) e = statements_local a n looped stmts e
-    alternative_local a n looped NoMore e = tt
-    alternative_local a n looped _ e = absurd (false≢true e)
+  pub statements_local : (a n : ℕ) (looped : Bool) (c : Code) → are_statements looped c ≡ true → AreLocal (objects_in units h a n c)
+  statements_local a n looped c e = on_statements local_laws looped c e a n
 
   group_local : (a : ℕ) (g : Code) → AreLocal (formals_of h a g)
   group_local a (Formals ids m of) = each_local a m (code_items ids)
   group_local a _ = tt
 
-  formals_local : (a : ℕ) (groups : List Code) → AreLocal (flat_map (formals_of h a) groups)
+  pub formals_local : (a : ℕ) (groups : List Code) → AreLocal (flat_map (formals_of h a) groups)
   formals_local a [] = tt
   formals_local a (g ∷ groups) = both (formals_of h a g) (flat_map (formals_of h a) groups) (group_local a g) (formals_local a groups)
 

@@ -8,7 +8,7 @@ use Rattle.machine.specs.spark_base.Lists.{Has}
 use Rattle.soundness.proofs.Lists.{Has-append_left, Has-append_right, Has-append_cases, Has-map}
 use Rattle.machine.specs.place_names.declared.act.Mode.{Mode}
 use Rattle.machine.specs.place_names.declared.act.Mode.TheVariants as mode
-use Rattle.machine.specs.resolved_tree.Trees.{Code, Skip, Assign, Call, Exit, Return, Incomplete, Private, TypeDecl, Subtype, ConstrainedSubtype, Objects, Numbers, Instance, Formals, SubDecl, SubBody, Package, PackageBody, If, Branch, Case, When, Loop, While, For, Block, NoMore, More, code_items}
+use Rattle.machine.specs.resolved_tree.Trees.{Code, Incomplete, Private, TypeDecl, Subtype, ConstrainedSubtype, Objects, Numbers, Instance, SubDecl, SubBody, Package, PackageBody, NoMore, More, code_items}
 use Rattle.machine.specs.type_definitions.declared.table.Kind.{Kind}
 use Rattle.machine.specs.type_definitions.declared.table.Kind.TheVariants as kind
 use Rattle.machine.specs.type_definitions.declared.table.Entry.{Entry}
@@ -24,10 +24,11 @@ use Rattle.machine.specs.flow_paths.Objects.{is_state}
 use Rattle.machine.specs.flow_paths.Laid.{declared_within}
 use Rattle.settled_types.specs.OrderLaws.ScopeLaws.Code.{Once}
 use Rattle.settled_types.proofs.OrderLaws.ScopeLaws.Lists.{and_first, and_second, all_both, all_has}
-use Rattle.settled_types.specs.OrderLaws.Written.{is_declaration, are_declarations, are_statements, is_statement, are_branches, is_branch, are_alternatives, is_alternative, is_procedure, is_body, are_parts, is_unit}
+use Rattle.settled_types.specs.OrderLaws.Written.{is_declaration, are_declarations, are_statements, is_procedure, is_body, are_parts, is_unit}
 use Rattle.settled_types.proofs.OrderLaws.Numbers.{numbers, declared_in, two, one_declaration}
-use Rattle.settled_types.proofs.OrderLaws.Parts.{IsPart, part_whole, part_none, part_both, part_object, number_here, number_later, number_of, either, same_number}
+use Rattle.settled_types.proofs.OrderLaws.Parts.{IsPart, part_whole, part_none, part_both, part_object, number_here, number_later, number_of, same_number}
 use Rattle.settled_types.proofs.OrderLaws.Parts as parts
+use Rattle.settled_types.proofs.OrderLaws.Units.{IsLocal, declarations_local, statements_local, formals_local}
 
 -- ---- objects of packages, and others
 
@@ -36,9 +37,6 @@ is_packaged o = is_some o.«package» && not (is_state o.kind)
 
 abbrev IsPackaged : DeclaredObject → Type 0
 IsPackaged o = is_packaged o.object ≡ true
-
-abbrev IsLocal : DeclaredObject → Type 0
-IsLocal o = o.object.«package» ≡ None
 
 entry_plain : (e : Entry) → is_state (entry_kind e) ≡ false
 entry_plain (entry.Object o) = by_kind o.kind
@@ -57,105 +55,6 @@ module _ (h : Home) (text : List ℕ) (is : h.identifier ≡ Some text) where
   each_packaged : (a : ℕ) (m : Mode) (ids : List Code) → AllByRecursion IsPackaged (map (object_of h a m) ids)
   each_packaged a m [] = tt
   each_packaged a m (d ∷ ids) = (one_packaged a m d, each_packaged a m ids)
-
--- ---- within a subprogram
-
-module _ (units : List Code) (h : Home) (outside : h.identifier ≡ None) where
-  abbrev AreLocal : List DeclaredObject → Type 0
-  AreLocal os = AllByRecursion IsLocal os
-
-  each_local : (a : ℕ) (m : Mode) (ids : List Code) → AreLocal (map (object_of h a m) ids)
-  each_local a m [] = tt
-  each_local a m (d ∷ ids) = (outside, each_local a m ids)
-
-  both : (os us : List DeclaredObject) → AreLocal os → AreLocal us → AreLocal (os ++ us)
-  both os us x y = all_both IsLocal os us x y
-
-  declaration_local : (a n : ℕ) (c : Code) → is_declaration c ≡ true → AreLocal (objects_in units h a n c)
-  unfolding objects_in
-  declaration_local a n (Objects ids constant i v) e = each_local a mode.In (code_items ids)
-  declaration_local a n (Numbers ids v) e = each_local a mode.In (code_items ids)
-  declaration_local a n (Incomplete d) e = tt
-  declaration_local a n (Private d) e = tt
-  declaration_local a n (TypeDecl d def end) e = tt
-  declaration_local a n (Subtype d m) e = tt
-  declaration_local a n (ConstrainedSubtype d m low high) e = tt
-  declaration_local a n (Instance d m args) e = tt
-  declaration_local a n (SubDecl front) e = tt
-  declaration_local a n NoMore e = tt
-  declaration_local a n _ e = absurd (false≢true e)
-
-  declarations_local : (a n : ℕ) (c : Code) → are_declarations c ≡ true → AreLocal (objects_in units h a n c)
-  unfolding objects_in are_declarations
-  declarations_local a n (More c rest) e =
-      both (objects_in units h a n c) (objects_in units h a (n + scope_count c) rest) (declaration_local a n c (and_first (is_declaration c) (are_declarations rest) e))
-      (declarations_local a (n + scope_count c) rest (and_second (is_declaration c) (are_declarations rest) e))
-  declarations_local a n NoMore e = tt
-  declarations_local a n _ e = absurd (false≢true e)
-
-  mutual
-    unfolding objects_in are_statements is_statement are_branches is_branch are_alternatives is_alternative
-
-    statements_local : (a n : ℕ) (looped : Bool) (c : Code) → are_statements looped c ≡ true → AreLocal (objects_in units h a n c)
-    statements_local a n looped (More c rest) e =
-        both (objects_in units h a n c) (objects_in units h a (n + scope_count c) rest) (one_local a n looped c (and_first (is_statement looped c) (are_statements looped rest) e))
-        (statements_local a (n + scope_count c) looped rest (and_second (is_statement looped c) (are_statements looped rest) e))
-    statements_local a n looped NoMore e = tt
-    statements_local a n looped _ e = absurd (false≢true e)
-
-    one_local : (a n : ℕ) (looped : Bool) (c : Code) → is_statement looped c ≡ true → AreLocal (objects_in units h a n c)
-    one_local a n looped (If p branches otherwise) e =
-        both (objects_in units h a n branches) (objects_in units h a (n + scope_count branches) otherwise)
-        (branches_local a n looped branches (and_first (are_branches looped branches) (are_statements looped otherwise) e))
-        (statements_local a (n + scope_count branches) looped otherwise (and_second (are_branches looped branches) (are_statements looped otherwise) e))
-    one_local a n looped (Case p v whens) e = alternatives_local a n looped whens e
-    one_local a n looped (Loop p stmts) e = statements_local a n true stmts e
-    one_local a n looped (While p v stmts) e = statements_local a n true stmts e
-    one_local a n looped (For p d reversed range stmts) e = (outside, statements_local n (n + 1) true stmts e)
-    one_local a n looped (Block p items stmts end) e =
-        both (objects_in units h n (n + 1) items) (objects_in units h n (n + 1 + scope_count items) stmts)
-        (declarations_local n (n + 1) items (and_first (are_declarations items) (are_statements looped stmts) e))
-        (statements_local n (n + 1 + scope_count items) looped stmts (and_second (are_declarations items) (are_statements looped stmts) e))
-    one_local a n looped (Skip p) e = tt
-    one_local a n looped (Assign target v) e = tt
-    one_local a n looped (Call name) e = tt
-    one_local a n looped (Exit p when) e = tt
-    one_local a n looped (Return p v) e = tt
-    one_local a n looped NoMore e = tt
-    one_local a n looped _ e = absurd (false≢true e)
-
-    branches_local : (a n : ℕ) (looped : Bool) (c : Code) → are_branches looped c ≡ true → AreLocal (objects_in units h a n c)
-    branches_local a n looped (More c rest) e =
-        both (objects_in units h a n c) (objects_in units h a (n + scope_count c) rest) (branch_local a n looped c (and_first (is_branch looped c) (are_branches looped rest) e))
-        (branches_local a (n + scope_count c) looped rest (and_second (is_branch looped c) (are_branches looped rest) e))
-    branches_local a n looped NoMore e = tt
-    branches_local a n looped _ e = absurd (false≢true e)
-
-    branch_local : (a n : ℕ) (looped : Bool) (c : Code) → is_branch looped c ≡ true → AreLocal (objects_in units h a n c)
-    branch_local a n looped (Branch p v stmts) e = statements_local a n looped stmts e
-    branch_local a n looped NoMore e = tt
-    branch_local a n looped _ e = absurd (false≢true e)
-
-    alternatives_local : (a n : ℕ) (looped : Bool) (c : Code) → are_alternatives looped c ≡ true → AreLocal (objects_in units h a n c)
-    alternatives_local a n looped (More c rest) e =
-        both (objects_in units h a n c) (objects_in units h a (n + scope_count c) rest)
-        (alternative_local a n looped c (and_first (is_alternative looped c) (are_alternatives looped rest) e))
-        (alternatives_local a (n + scope_count c) looped rest (and_second (is_alternative looped c) (are_alternatives looped rest) e))
-    alternatives_local a n looped NoMore e = tt
-    alternatives_local a n looped _ e = absurd (false≢true e)
-
-    alternative_local : (a n : ℕ) (looped : Bool) (c : Code) → is_alternative looped c ≡ true → AreLocal (objects_in units h a n c)
-    alternative_local a n looped (When choices stmts) e = statements_local a n looped stmts e
-    alternative_local a n looped NoMore e = tt
-    alternative_local a n looped _ e = absurd (false≢true e)
-
-  group_local : (a : ℕ) (g : Code) → AreLocal (formals_of h a g)
-  group_local a (Formals ids m of) = each_local a m (code_items ids)
-  group_local a _ = tt
-
-  formals_local : (a : ℕ) (groups : List Code) → AreLocal (flat_map (formals_of h a) groups)
-  formals_local a [] = tt
-  formals_local a (g ∷ groups) = both (formals_of h a g) (flat_map (formals_of h a) groups) (group_local a g) (formals_local a groups)
 
 or_first : (x y : Bool) → x ≡ true → x || y ≡ true
 or_first true y e = refl
