@@ -100,7 +100,7 @@ module _ (t : Turn) (sees : ℕ → Bool) (settled : IsSettled (typing t).table)
         → Reaches (seen (typing t) m hands leaks) w (OfCell c) → Reaches (seen (typing t) n hands leaks) w (OfCell c)
 
   pub left_more : (r : Return) (rest : List Return) (w : Way) → IsLeft (r ∷ rest) w → IsLeft rest w
-  left_more r rest w (x, base, none) = (x, base, λ q has. none q (inr has))
+  left_more r rest w these = let (x, base, none) = these in (x, base, λ q has. none q (inr has))
 
   -- ---- one that is given back
 

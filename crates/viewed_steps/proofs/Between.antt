@@ -73,7 +73,8 @@ module _ (home : ℕ → ℕ) (v : Views) (facts : List Fact) where
 
 -- what begins one with a way that it is apart from isn't taken by that
 pub not_taken : (to : Way) (ways : List Way) → ((k : Way) → Has ways k → (Under to k → ⊥) × (Under k to → ⊥)) → (w : Way) → Under to w → TakenBy ways w → ⊥
-not_taken to ways apart w under (k, has, p, is) =
+not_taken to ways apart w under these =
+    let (k, has, p, is) = these in
     let below : Under k w = subst (Under k) (sym is) (under_along k k p (under_itself k)) in
     elim (beginnings to k w under below) [ inl a ↦ (apart k has).0 a | inr b ↦ (apart k has).1 b ]
 
@@ -173,7 +174,7 @@ taken_from s sees cells m depth v facts scope (r ∷ rest) (to ∷ ways) (inr (o
 
 pub taken_base : (s : Typing) (ways : List Way) (depth : ℕ) → ((k : Way) → Has ways k → Begins s depth k)
     → (w : Way) → TakenBy ways w → Begins s depth w
-taken_base s ways depth begin w (k, has, p, is) = (let base = begin k has in (base.0, base.1, ap base_of is ∙ base_along k p ∙ base.2, base.3))
+taken_base s ways depth begin w these = let (k, has, p, is) = these in (let base = begin k has in (base.0, base.1, ap base_of is ∙ base_along k p ∙ base.2, base.3))
 
 -- it stays so where no number comes to them
 pub still_taken : (s : Typing) (sees : ℕ → Bool) (cells : List Lodge) (m n : Memory) (depth : ℕ) (v : Views) (facts : List Fact) (scope : List ℕ) (returns : List Return) (ways : List Way)

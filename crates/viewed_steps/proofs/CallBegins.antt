@@ -341,7 +341,7 @@ module _ (table : Table) (typed : TypedProgram) (effects : Effects) (input : Lis
 
         -- what is moved there is moved by the frame
         moved_called : (w : Way) → IsMovedBy (home s depth) inner.views facts_all w → IsMovedBy (home s depth) inner.views facts_called w
-        moved_called w (u, moved, leads) = elim (calling.splits_all table typed effects input ready inner n actuals result e (Moved (ways.name_of u)) moved.1) [
+        moved_called w these = let (u, moved, leads) = these in elim (calling.splits_all table typed effects input ready inner n actuals result e (Moved (ways.name_of u)) moved.1) [
           | inl mine ↦ (u, (moved.0, mine), leads)
           | inr there ↦ absurd (none_moved table typed effects unmoved_stage local inner.state depth older between (ways.name_of u) there)
         ]
@@ -376,7 +376,8 @@ module _ (table : Table) (typed : TypedProgram) (effects : Effects) (input : Lis
         -- no number stands in what is taken
         bare_there : (w : Way) (l : ways.Loc) (q : List Step) → IsBareOf s waits_there w l q → (r : List Step) (k : ℕ)
             → word_in s.table (content s with_all [] l) (r ++ q) ≡ ways.Held k → ⊥
-        bare_there w l q (taken, top_part) r k held =
+        bare_there w l q these r k held =
+            let (taken, top_part) = these in
             taken_bare s sees cells with_all depth inner.views facts_all next_there (view_here s easy.state) (λ c has. (named_cell c has).reaches) (returns_of formals passed) ways_taken taken_then w l
             (by_either top_part
             (λ (c, has, way, is). (

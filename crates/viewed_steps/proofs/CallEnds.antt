@@ -286,7 +286,8 @@ module _ (table : Table) (typed : TypedProgram) (effects : Effects) (input : Lis
       -- what its facts say is moved begins in no frame above
       moved_low : (w : Way) → IsMovedBy (home s inner.below.stage.depth) inner.below.views their_facts w
           → (f : ℕ) × (y : ℕ) × (ways.base_of w ≡ OfRoot (OfVariable f y)) × (f < suc inner.below.stage.depth)
-      moved_low w (u, moved, leads) =
+      moved_low w these =
+          let (u, moved, leads) = these in
           by_either (stands (home s inner.below.stage.depth) sees inner.below.views (view_here s inner.state) their_facts waits.views u (moved.0, waits.clear.owned (ways.name_of u) moved.1))
           (λ own. (
           let named_there : ways.Named (home s inner.below.stage.depth) w = subst (ways.Named (home s inner.below.stage.depth)) leads own.named in (
@@ -632,7 +633,8 @@ module _ (table : Table) (typed : TypedProgram) (effects : Effects) (input : Lis
         -- what is bare elsewhere in a cell isn't given back to
         bare_aside : (w : ways.Way) (n : ℕ) (q r : List Step) → BareElsewhere table typed effects unmoved_stage local (h ∷ others) w (ways.OfCell n) q
             → IsTakenIn inner.below.cells inner.below.stage.returns n (r ++ q) → ⊥
-        bare_aside w n q r there (c, has, is, (to, has_to, steps_on, goes)) =
+        bare_aside w n q r there these =
+            let (c, has, is, (to, has_to, steps_on, goes)) = these in
             let view = view_here s inner.state in
             let reach : ways.Reaches view w (ways.OfCell n) = bare_reached table typed effects unmoved_stage local inner.state inner.below.stage.depth (h ∷ others) between_low w n q there in
             let same : c.way ≡ w = one_way view well.owned c.way w (ways.OfCell n) (subst (λ z. ways.Reaches view c.way (ways.OfCell z)) is (waits.kept c has).reaches) reach in

@@ -417,7 +417,7 @@ module _ (table : Table) (typed : TypedProgram) (effects : Effects) (input : Lis
             ]
 
         older_lent : (l : Loan) (w : Way) → IsThrough (home s depth) (LentBy program effects older) l w → IsThrough (home s next) LentAround l w
-        older_lent l w (k, at_home, under, lent) = (
+        older_lent l w these = let (k, at_home, under, lent) = these in (
           k,
           package_named s depth next k lent.5 at_home,
           under,

@@ -362,7 +362,8 @@ module _ (table : Table) (typed : TypedProgram) (effects : Effects) (input : Lis
         -- what was lent to the frame it doesn't write
         lent_unwritten : (to : Way) (y : ℕ) → ways.base_of to ≡ ways.OfRoot (ways.OfVariable 0 y) → is_package_object s y ≡ true → Given_to to
             → Has (written_by effects inner.top.frame.sub) y → ⊥
-        lent_unwritten to y base shared (x, u, is, given, sight, under) written =
+        lent_unwritten to y base shared these written =
+            let (x, u, is, given, sight, under) = these in
             let first : 0 ≡ home s depth y = ap (λ b. if b then 0 else depth) (sym shared) in
             let based : ways.base_of u ≡ ways.OfRoot (ways.OfVariable (home s depth y) y) =
             sym (base_under u to under) ∙ base ∙ ap (λ f. ways.OfRoot (ways.OfVariable f y)) first in

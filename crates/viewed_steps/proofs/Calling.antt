@@ -624,7 +624,7 @@ module _ (table : Table) (typed : TypedProgram) (effects : Effects) (input : Lis
         -- one of another place
         housed_aside : (c : Lodge) (has : Has cells c) (k : Place) → k.base ≡ memory.OfCell c.cell
             → (u : Way) × Has ways_taken u × IsPassedOn s sees cells depth inner.views facts_all next_there (named_cell c has).by.formal k u → (to : Way) → Has ways_taken to → ways.Past to c.way → ⊥
-        housed_aside c has k base (u, has_u, one) to taken past = by_either (one.inside).stands
+        housed_aside c has k base these to taken past = let (u, has_u, one) = these in by_either (one.inside).stands
             (λ variable. (let never : memory.OfVariable (one.inside).frame (one.inside).object ≡ memory.OfCell c.cell = sym variable.2 ∙ base in absurd (false≢true (ap is_of_cell_base never))))
             (λ cell. (
             let view = view_here s easy.state in

@@ -149,7 +149,7 @@ hand_apart : {h f x : ℕ} → OfRoot (OfVariable f x) ≡ OfRoot (OfHand h) →
 hand_apart e = cc
 
 variable_off : (g y : ℕ) (p : List Step) (h : ℕ) → Below (hand h) (part (OfRoot (OfVariable g y)) p) → ⊥
-variable_off g y p h (q, is) = hand_apart (sym (trunk_part (OfRoot (OfVariable g y)) p) ∙ ap trunk is ∙ trunk_part (hand h) q)
+variable_off g y p h these = let (q, is) = these in hand_apart (sym (trunk_part (OfRoot (OfVariable g y)) p) ∙ ap trunk is ∙ trunk_part (hand h) q)
 
 pub cell_off : (c : ℕ) (p : List Step) (l : Loc) (r : Root) → trunk l ≡ OfRoot r → Below l (part (OfCell c) p) → ⊥
 cell_off c p l r base (q, is) = other_trunk (sym (trunk_part (OfCell c) p) ∙ ap trunk is ∙ trunk_part l q ∙ base)

@@ -171,12 +171,13 @@ module _ (h : Here) (sees : ℕ → Bool) (seeing : Seeing h.typing sees) (settl
   )
 
   retyped : (t u : ℕ) (ws : List machine.Word) → Matches s.table t u → Fits t ws → Fits u ws
-  retyped t u ws fits (long, points) = (long ∙ matches_words s.table settled t u fits, retyped_points s settled m t u ws fits points)
+  retyped t u ws fits these = let (long, points) = these in (long ∙ matches_words s.table settled t u fits, retyped_points s settled m t u ws fits points)
 
   -- another part behind those before
   part_fits : (t u : ℕ) (acc ws : List machine.Word) (step : Step) → has_part s.table t (step ∷ []) ≡ true → offset_in s.table t (step ∷ []) ≡ length acc
       → type_in s.table t (step ∷ []) ≡ u → Points s m (in_hand (record { of = t; words = acc })) → Fits u ws → Points s m (in_hand (record { of = t; words = acc ++ ws }))
-  part_fits t u acc ws step there offset is before (long, points) =
+  part_fits t u acc ws step there offset is before these =
+      let (long, points) = these in
       let part : Waiting = record { of = t; words = acc } in
       top_points s settled m (record { of = t; words = acc ++ ws }) hands
       (joined s settled m u t ws acc hands step there offset (long ∙ ap (words s.table) (sym is)) (inl (ap (shape_of s.table) (sym is)))
@@ -185,7 +186,7 @@ module _ (h : Here) (sees : ℕ → Bool) (seeing : Seeing h.typing sees) (settl
   -- one for all elements
   repeated_fits : (t : ℕ) (ws : List machine.Word) → is_array (shape_of s.table t) ≡ true → Fits (element_type s.table t) ws
       → Fits t (machine.repeated (element_count s.table t) ws)
-  repeated_fits t ws array (long, points) = (
+  repeated_fits t ws array these = let (long, points) = these in (
     repeated_long s settled t ws (shape_of s.table t) refl array long,
     top_points s settled m (record { of = t; words = machine.repeated (element_count s.table t) ws }) hands
         (repeated s settled m t ws hands (shape_of s.table t) refl array long (in_typed (element_type s.table t) ws points)).points,

@@ -311,7 +311,7 @@ module _ (t : Turn) (sees : ℕ → Bool) (seeing : Seeing (typing t) sees) (set
 
   blank_after : (x : ℕ) → is_view_formal s x ≡ false → (facts : List Fact) (ws : List machine.Word) (n : Now) → Given_here (object_at s x).of facts (Done ws n)
       → FadesTo (here t) {A = List machine.Word} m (Done ws n) → IsBlank x m → IsUnmoved x facts → IsFree x → IsBlank x n.memory
-  blank_after x owner facts ws n (ready, long, same) faint new unmoved free p = by_either (bool_cases (is_leaf s.table (object_at s x).of p))
+  blank_after x owner facts ws n these faint new unmoved free p = let (ready, long, same) = these in by_either (bool_cases (is_leaf s.table (object_at s x).of p))
       (λ leaf. (
       let one = faint depth x (offset_in s.table (object_at s x).of p) in
       let own : not (is_view_formal s x) ≡ true = ap not owner in
@@ -394,7 +394,8 @@ module _ (t : Turn) (sees : ℕ → Bool) (seeing : Seeing (typing t) sees) (set
   pub declared_goes : (x : ℕ) (facts : List Fact) → IsNamed s.table (object_at s x).of → is_view_formal s x ≡ false → (ws : List machine.Word) (n : Now)
       → Given_here (object_at s x).of facts (Done ws n) → FadesTo (here t) {A = List machine.Word} m (Done ws n) → IsBlank x m → IsUnmoved x facts → IsFree x
       → IsApart (home s depth) other depth x → LeadsHere facts (goes t (declared depth x ws n.memory) 0)
-  declared_goes x facts named owner ws n (ready, long, same) faint new unmoved free apart =
+  declared_goes x facts named owner ws n these faint new unmoved free apart =
+      let (ready, long, same) = these in
       goes_to t sees seeing settled own_law other alone v parts_named may frames none (declared depth x ws n.memory) 0 v facts
       (unturned t sees seeing settled own_law other alone v parts_named may frames none facts)
       (declared_viewed s settled (home s depth) sees other v n.memory (record { of = (object_at s x).of; words = ws }) hands t.state.leaks facts depth x

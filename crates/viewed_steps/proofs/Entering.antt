@@ -130,7 +130,8 @@ module _ (s : Typing) (sees : ℕ → Bool) (settled : IsSettled s.table) (own_l
   nothing_entered : (other : Way → Type 0) (leaks : List Leak) (formals : List ℕ) (passed : List Passed) (ways : List Way) (outs : List Out) (before m : Memory)
       → returns_of formals passed ≡ [] → (ways ≡ []) × (outs ≡ []) → Kept s m hands → StandIn (outs_also other outs) leaks m
       → Enter other leaks (leaks ++ found_in s before outs) formals passed ways m m
-  nothing_entered other leaks formals passed ways outs before m none (no_ways, no_outs) typed stand =
+  nothing_entered other leaks formals passed ways outs before m none these typed stand =
+      let (no_ways, no_outs) = these in
       subst (λ z. Enter other leaks z formals passed ways m m) (sym (ap (λ z. leaks ++ found_in s before z) no_outs ∙ append-nil leaks)) (
         nothing_declared formals passed ways leaks m typed,
         more_gone (home s depth) v facts (outs_also other outs) (taken_also other ways) (seen s m hands leaks) (λ w o. elim o [
@@ -205,7 +206,7 @@ module _ (s : Typing) (sees : ℕ → Bool) (settled : IsSettled s.table) (own_l
   -- ---- what is known elsewhere after one is taken
 
   pub along_under : (to w : Way) → (p : List Step) × (w ≡ along to p) → Under to w
-  along_under to w (p, is) = subst (Under to) (sym is) (under_along to to p (under_itself to))
+  along_under to w these = let (p, is) = these in subst (Under to) (sym is) (under_along to to p (under_itself to))
 
   -- the others are open still
   pub others_open : (other : Way → Type 0) (to : Way) (ways : List Way) → Begins s depth to → IsApartFrom to ways → IsOpen Moved other (to ∷ ways)

@@ -255,7 +255,8 @@ module _ (table : Table) (typed : TypedProgram) (effects : Effects)
   module _ (are : AreEffects (flow_program table typed) effects) (e : Stage) (named : NamedSub) (of_sub : IsNamedSub (flow_named table typed) e.frame.sub named)
       (backs : List Return) (waiting : AreWaiting table typed effects state e.frame.sub backs older) where
     spared_by : (l : Loan) (m : Name) → LentElsewhere table typed effects unmoved local older l m → Has (written_by effects e.frame.sub) m.root → ⊥
-    spared_by l m (g, has, some, f, keeps, shared, kind, is) written =
+    spared_by l m these written =
+        let (g, has, some, f, keeps, shared, kind, is) = these in
         kept_there table typed effects are (unused_there table typed effects unmoved local) state e.frame.sub backs older waiting g has some f keeps
         (ap (λ (z : Name). is_package_object s z.root) is ∙ shared)
         (written_disturbs table typed effects are (loan_by f) e.frame.sub (place f).root

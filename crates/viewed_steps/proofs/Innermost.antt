@@ -185,7 +185,8 @@ module _ (table : Table) (typed : TypedProgram) (effects : Effects) (input : Lis
 
     -- it disturbs none of what they keep
     pub spared_here : (l : Loan) (name : PlaceName) → LentAround l name → Disturbs effects l inner.top.frame.sub name.root → ⊥
-    spared_here l name (g, has, some, f, there, shared, kind, is) disturbs =
+    spared_here l name these disturbs =
+        let (g, has, some, f, there, shared, kind, is) = these in
         kept_there table typed effects ready.accepted.effects_are (unused_there table typed effects unmoved_stage local) inner.state inner.top.frame.sub inner.top.frame.returns older inner.running.2 g has some f there
         (ap (λ (z : PlaceName). is_package_object s z.root) is ∙ shared)
         (subst (λ z. Disturbs effects z inner.top.frame.sub (place f).root) (sym kind) (subst (λ (z : PlaceName). Disturbs effects l inner.top.frame.sub z.root) (sym is) disturbs))

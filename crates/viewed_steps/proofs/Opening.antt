@@ -173,7 +173,7 @@ module _ (h : Here) (sees : ℕ → Bool) (seeing : Seeing h.typing sees) (settl
   passes_by : (x : ℕ) (e : TypedTree) (a : Passed) (formals : List ℕ) (rest : TypedTree) (passed : List Passed)
       → (is_given s x ≡ true → is_bundle s x ≡ false → (ws : List machine.Word) (n : ℕ) → a ≡ Value ws → first_word ws ≡ machine.Cell n → ⊥)
       → (is_bundle s x ≡ true → (ws : List machine.Word) → a ≡ Value ws → ⊥) → Opens formals rest passed → Opens (x ∷ formals) (More e rest) (a ∷ passed)
-  passes_by x e a formals rest passed none single (t, are) = (
+  passes_by x e a formals rest passed none single these = let (t, are) = these in (
     t,
     record {
       way = λ y w has. (let found = are.way y w has in (found.0, inr found.1, found.2, found.3, inr found.4));

@@ -50,7 +50,8 @@ still_then s cells depth a b c to first second = (
 -- Of two ways that don't begin each other, neither leads into the place of the other one.
 pub ways_apart : (view : View) → Owned view → (to : Way) (at : Loc) → Reaches view to at → (u : Way) (l : Loc) → Reaches view u l → (q p : List Step)
     → (Under to (along u q) → ⊥) × (Under (along u q) to → ⊥) → Below at (part l (p ++ q)) → ⊥
-ways_apart view owned to at reaches u l there_u q p apart (r, is) =
+ways_apart view owned to at reaches u l there_u q p apart these =
+    let (r, is) = these in
     let z : Way = along u q in
     let stands : Reaches view z (part l q) = reaches_along view u l q there_u in
     let there : Reaches view (along z p) (part l (p ++ q)) = subst (Reaches view (along z p)) (part_part l q p) (reaches_along view z (part l q) p stands) in

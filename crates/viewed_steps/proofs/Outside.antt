@@ -65,7 +65,8 @@ module _ (table : Table) (typed : TypedProgram) (effects : Effects)
 
   module _ (to : Way) (y : ℕ) (base : base_of to ≡ OfRoot (OfVariable (home s depth y) y)) (spared : IsSpared y) where
     lent_clear : (w : Way) → base_of w ≡ base_of to → (l : Loan) → IsLentFor table typed effects unmoved local state depth older between l w → ⊥
-    lent_clear w same l (k, named, under, lent) =
+    lent_clear w same l these =
+        let (k, named, under, lent) = these in
         spared l (name_of k) lent
         (same_variable (home s depth (number_of k)) (number_of k) (home s depth y) y
         (sym (named_base (home s depth) k named) ∙ sym (base_under k w under) ∙ same ∙ base)).1
@@ -102,7 +103,8 @@ module _ (table : Table) (typed : TypedProgram) (effects : Effects)
 
   -- what is bare for them is gone for them
   pub bare_clear : (to : Way) → IsFree to → (w : Way) (l : Loc) (p q : List Step) → BareElsewhere table typed effects unmoved local older w l p → Under to (along w (q ++ p)) → ⊥
-  bare_clear to free w l p q (g, has, bare) below =
+  bare_clear to free w l p q these below =
+      let (g, has, bare) = these in
       gone_clear to free (along w (q ++ p)) (g, has, inr (along w p, bare.0, q, along_both w q p)) (inl below)
 
   -- a name of the frame stands for such a way

@@ -294,7 +294,7 @@ module _ (table : Table) (typed : TypedProgram) (effects : Effects) (input : Lis
     nowhere = known_gone (home s 0) (GoneElsewhere program effects [])
 
     alone_first : (w : Way) → IsNear 0 w → GoneElsewhere program effects [] w → ⊥
-    alone_first w near (g, has, what) = has
+    alone_first w near these = let (g, has, what) = these in has
 
     abbrev no_sources : ℕ → ℕ → Type 0
     no_sources a b = ⊥

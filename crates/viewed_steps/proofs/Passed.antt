@@ -410,7 +410,8 @@ module _ (s : Typing) (sees : ℕ → Bool) (seeing : Seeing s sees) (own_law : 
       → (Allows known (act.Actual (ways.name_of own.name) how (is_owning s.table (object_at s x).of) (procedure && is_named_access (view_of s x))) → Unlent facts own.name
       → IsTakenAs s depth v facts k own.to a outs later × ((n : PlaceName) → Has facts (Moved n) → covers (ways.name_of own.name) n ≡ true → ⊥))
       → Passes formals actuals passed later → Passes (x ∷ formals) (More (Name p y path u) actuals) (a ∷ passed) outs
-  own_first x how p y u path k a formals actuals passed known outs later back many own local differ within none less allowed unlent taken (ways_left, are, names) =
+  own_first x how p y u path k a formals actuals passed known outs later back many own local differ within none less allowed unlent taken these =
+      let (ways_left, are, names) = these in
       let actual : Written = record { pos = p; name = name_of y path; of = u } in
       let by_name : Allows known (act.Actual (ways.name_of own.name) how (is_owning s.table (object_at s x).of) (procedure && is_named_access (view_of s x))) =
       subst (λ z. Allows known (act.Actual z how (is_owning s.table (object_at s x).of) (procedure && is_named_access (view_of s x)))) (sym own.called) allowed in

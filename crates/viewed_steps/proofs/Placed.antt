@@ -86,7 +86,8 @@ module _ (s : Typing) where
 
   -- what has an end of its own stays
   pub within_on : (a b : List ℕ) (x : ℕ) → Leads s a b → has_scope_end s x ≡ true → is_within x a ≡ true → is_within x b ≡ true
-  within_on a b x (gone, silent, is) end within =
+  within_on a b x these end within =
+      let (gone, silent, is) = these in
       elim (either (is_within x gone) (is_within x b) (sym (list_any-append (λ y. x == y) gone b) ∙ ap (is_within x) (sym is) ∙ within)) [
         | inr there ↦ there
         | inl left ↦ absurd (true_false (has_scope_end s x) end (silent_in x gone silent left))

@@ -29,7 +29,7 @@ module _ (at_home : ℕ → ℕ) (observer : ℕ → Bool) (v : Views) (s : View
   own_place x w view e = (named_front at_home (v.loan x) (v.up x) view.begins view.named, subst (Under (v.loan x)) (sym e ∙ view.leads) view.begins)
 
   further : (l : Loan) (x : ℕ) (w : Way) → IsView at_home observer v s facts x w → (z : Lifted v (v.up x)) → GoesOn l z.way → GoesOn l w
-  further l x w view z (h, k, lent, named, under) = (
+  further l x w view z these = let (h, k, lent, named, under) = these in (
     h,
     k,
     lent,

@@ -208,7 +208,7 @@ module _ (h : Here) (sees : ℕ → Bool) (seeing : Seeing h.typing sees) (settl
   not_scalar d c n e = absurd (false≢true e)
 
   cell_as : (d k n : ℕ) → Matches s.table d k → IsCell s m d n → IsCell s m k n
-  cell_as d k n same (some, low, fits) = (some, low, matches_on s.table d k (cell m n).of same fits)
+  cell_as d k n same these = let (some, low, fits) = these in (some, low, matches_on s.table d k (cell m n).of same fits)
 
   -- What the source has. It is of a type that designates what the type of the formal does.
   abbrev Designates : ℕ → ℕ → Type 0

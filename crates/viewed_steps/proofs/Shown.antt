@@ -64,7 +64,7 @@ pub taken_cells : (s : Typing) (k : Place) (f x : ℕ) (ws : List machine.Word) 
 taken_cells s k f x ws m = (let moved = moved_cells s k m in record { count = moved.count; same = moved.same })
 
 cell_then : (s : Typing) (m n : Memory) → HasCells m n → (d k : ℕ) → IsCell s m d k → IsCell s n d k
-cell_then s m n had d k (some, low, fits) = (some, (let count = had.count in omega (arith, low, count)), subst (Matches s.table d) (sym (had.same k)) fits)
+cell_then s m n had d k these = let (some, low, fits) = these in (some, (let count = had.count in omega (arith, low, count)), subst (Matches s.table d) (sym (had.same k)) fits)
 
 module _ (s : Typing) (sees : ℕ → Bool) (settled : IsSettled s.table) (own_law : OwnsByShape s.table) (in_formals : AreAccess s) (hands : List Waiting) (leaks : List Leak) where
   -- What one formal that places are taken for changes in no variable but its own: owners see the same, and views

@@ -28,7 +28,7 @@ module _ (s : Typing) (n : ℕ) (c : TraversalCall) where
   Sees x = IsSeer s x
 
   pub kind_of : (x : ℕ) → Sees x → (is_borrower s x ≡ true) ⊎ ((is_borrower s x ≡ false) × (is_observer s x ≡ true))
-  kind_of x (variable, view) = elim (bool_cases (is_borrower s x)) [
+  kind_of x these = let (variable, view) = these in elim (bool_cases (is_borrower s x)) [
     | inl borrows ↦ inl borrows
     | inr none ↦ inr (
       none,

@@ -109,7 +109,8 @@ module _ (h : Here) (sees : ℕ → Bool) (seeing : Seeing h.typing sees) (settl
       → AllowsAll facts (acts (actual_values h.typing (Traversed ∷ others) (More (first_actual h.typing sees own_law c) c.others)))
       → Quiet (record { memory = m; waits = on }) AreAllGiven
       (all_passed h (Traversed ∷ others) (f ∷ formals) (More (first_actual h.typing sees own_law c) c.others) (record { memory = m; waits = before }))
-  all_traversed before on (mid, fit, takes, more) seen_first kinds unseen stay opens opens_others back allowed =
+  all_traversed before on these seen_first kinds unseen stay opens opens_others back allowed =
+      let (mid, fit, takes, more) = these in
       let first_acts : List Placed = index_acts h.typing (first_actual h.typing sees own_law c) in
       let each = allows_both facts (acts first_acts) (acts (actual_values h.typing others c.others))
       (subst (AllowsAll facts) (acts_append first_acts (actual_values h.typing others c.others)) allowed) in

@@ -250,7 +250,8 @@ module _ (table : Table) (typed : TypedProgram) (effects : Effects) (input : Lis
           → k < successors inner.p.instr → ((n : ℕ) → successor main_turn k ≡ Some n → after_step.frames ≡ record inner.top.frame { waits = waits; loops = loops; next = n } ∷ outer)
           → Left waits → Inside s IsOld after_step.memory depth (lasting_of s (scope_behind inner.p)) → LeadsFrom inner.p.instr (Goes after_step) → OthersKept s depth inner.state.memory after_step.memory
           → Along (Goes after_step)
-      goes_there spare end none after_step waits loops k less frames_then are inside_then (turned_views, turned, well) stay =
+      goes_there spare end none after_step waits loops k less frames_then are inside_then these stay =
+          let (turned_views, turned, well) = these in
           let next = successor_there main_turn k (subst (λ z. k < z) (sym successors_there) less) in
           let q = standing.next_at table typed effects input ready inner.state inner.top older outer inner.named inner.p inner.frames inner.of_sub inner.at_point inner.path next.0 next.2 in
           let there = turned_placed easy sees seeing ready.accepted.settled ready.owns other alone inner.views ready.class.parts_named left_scope (scope_behind inner.p) refl refl

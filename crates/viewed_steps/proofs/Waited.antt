@@ -65,7 +65,8 @@ module _ (s : Typing) where
 
   -- what leaves silently is no temporary
   pub leads_temporaries : (a b : List ℕ) → Leads s a b → temporaries_of s a ≡ temporaries_of s b
-  leads_temporaries a b (gone, silent, is) =
+  leads_temporaries a b these =
+      let (gone, silent, is) = these in
       ap (temporaries_of s) is ∙ temporaries_both gone b ∙ ap (λ z. z ++ temporaries_of s b) (silent_none gone silent)
 
   last_is : (x : ℕ) (scope : List ℕ) → is_last x scope ≡ true → is_temporary_object s x ≡ false → temporaries_of s (drop 1 scope) ≡ temporaries_of s scope

@@ -259,7 +259,8 @@ module _ (table : Table) (typed : TypedProgram) (effects : Effects)
 
   pub loans_has : (older : List ViewStage) (l : Loan) (n : Name) → LentElsewhere older l n → Has (loans_there older) (Lent l n.root n)
   unfolding loans_in
-  loans_has older l n (g, has, some, f, there, shared, kind, is) =
+  loans_has older l n these =
+      let (g, has, some, f, there, shared, kind, is) = these in
       subst (λ z. Has (loans_there older) (Lent z n.root n)) kind
       (subst (λ (z : Name). Has (loans_there older) (Lent (loan_by f) z.root z)) is
       (flat_has loans_in older g (Lent (loan_by f) (place f).root (place f)) has
@@ -323,14 +324,14 @@ module _ (table : Table) (typed : TypedProgram) (effects : Effects)
 
     -- it has the same names there
     through_for : (g : ViewStage) (l : Loan) (w : Way) → IsThrough (home s g.stage.depth) (LentBy program effects older) l w → IsLentFor l w
-    through_for g l w (k, named, under, lent) = (k, package_named s g.stage.depth depth k lent.5 named, under, lent)
+    through_for g l w these = let (k, named, under, lent) = these in (k, package_named s g.stage.depth depth k lent.5 named, under, lent)
 
     -- the way of a view goes on from such a place
     goes_for : (g : ViewStage) → Has older g → 0 < g.stage.depth
         → (views : AreViews (home s g.stage.depth) sees g.views (view_here s state) (facts_of program effects g.stage)) (l : Loan) (w : Way)
         → GoesOn (home s g.stage.depth) sees g.views (view_here s state) (facts_of program effects g.stage) views l w → is_package_object s (number_of w) ≡ true
         → IsLentFor l w ⊎ IsLentFor Borrowed w
-    goes_for g has some views l w (h, k, fact, named, under) shared = fact_for g has some (Lent l h (name_of k)) k w fact refl named under shared
+    goes_for g has some views l w these shared = let (h, k, fact, named, under) = these in fact_for g has some (Lent l h (name_of k)) k w fact refl named under shared
 
     -- the way of a view begins at an own variable of its frame, or goes on from such a place
     way_cases : (callee : ℕ) (backs : List Return) (g : ViewStage) → Has older g → 0 < g.stage.depth → IsWaiting table typed effects state callee backs g → SharesHere g
@@ -430,7 +431,7 @@ module _ (table : Table) (typed : TypedProgram) (effects : Effects)
         }
 
     begins_there : (w : Way) (n : ℕ) → KeptElsewhere older w n → Begins w
-    begins_there w n (g, has, way) = by_either (between g has)
+    begins_there w n these = let (g, has, way) = these in by_either (between g has)
         (λ first. (absurd (no_cells g w n first way)))
         (λ (some, less, callee, backs, waits, shared). (elim way [
           | inl (x, is, cell) ↦ way_begins callee backs g has some less waits shared x w is (waits.holds.lies x w is)
@@ -569,7 +570,7 @@ module _ (table : Table) (typed : TypedProgram) (effects : Effects)
             at_home (base_named (home s depth) z (number_of k) ((longer k z under).base ∙ named_base (home s depth) k named))
 
     pub far : (w : Way) (n : ℕ) → KeptElsewhere older w n → Reaches (view_here s state) w (OfCell n)
-    far w n (g, has, way) = by_either (between g has)
+    far w n these = let (g, has, way) = these in by_either (between g has)
         (λ first. (absurd (no_cells g w n first way)))
         (λ (some, less, callee, backs, waits, shared). (way_reaches state callee backs g waits w n way))
 
@@ -618,7 +619,8 @@ module _ (table : Table) (typed : TypedProgram) (effects : Effects)
     -- what was taken is gone for them
     pub emptied_there : (w : Way) (l : Loc) (p : List Step) → BareElsewhere older w l p → (q : List Step)
         → IsFar depth (GoneElsewhere program effects older) (along w (q ++ p)) ⊎ (IsLentFor Borrowed (along w (q ++ p)) × GoneElsewhere program effects older (along w (q ++ p)))
-    emptied_there w l p (g, has, bare) q =
+    emptied_there w l p these q =
+        let (g, has, bare) = these in
         let gone : GoneElsewhere program effects older (along w (q ++ p)) = (g, has, inr (along w p, bare.0, q, along_both w q p)) in
         by_either (near_or_far depth (along w (q ++ p))) (λ near. (inr (near_lent (along w (q ++ p)) near gone, gone))) (λ away. (inl (away, gone)))
 
