@@ -14,12 +14,12 @@ use Rattle.machine.specs.type_definitions.Faults.{demand}
 use Rattle.machine.specs.type_definitions.Entries.{entry_of}
 use Rattle.machine.specs.type_definitions.Expressions.{profile_of}
 use Rattle.machine.specs.type_definitions.Gathered.{front_number, in_hidden, declared_number, formal_infos, formal_groups, anonymous_result}
-use Rattle.machine.specs.type_definitions.Declarations.{code_faults, body_faults, front_faults, front_pos, agrees, in_body, same_formals, same_result}
+use Rattle.machine.specs.type_definitions.Declarations.{code_faults, body_faults, front_faults, front_pos, agrees, in_body, same_formals, same_result, has_none}
 use Rattle.machine.specs.type_definitions.Whole.{outside, known_of, is_formless, type_fault}
 use Rattle.machine.specs.typed_tree.Expressions.{Site, object_number}
 use Rattle.machine.specs.typed_tree.Statements.{scope_count}
 use Rattle.machine.specs.typed_tree.Programs.{TypedSub, subs_in, placed, bodies_in, over_units, site_of, formal_numbers, front_formals, typed_program}
-use Rattle.settled_types.proofs.Cases.{items_end, on_more}
+use Rattle.settled_types.proofs.Cases.{is_front, items_end, on_front, on_more}
 use Rattle.settled_types.proofs.OrderLaws.ScopeLaws.Lists.{and_first}
 use Rattle.settled_types.specs.OrderLaws.ReadyLaws.InOrder.{IsSub}
 use Rattle.settled_types.specs.OrderLaws.Written.{is_procedure, is_unit, are_declarations, are_statements}
@@ -87,12 +87,23 @@ front_plain s known (Front d formals result) agree none =
     (same_result known (profile_of (entry_of known (declared_number d))).result result) agree)))
 front_plain s known front agree none = refl
 
+no_infos : (known : Known) (first : Bool) (formals : Code) → has_none formals ≡ true → formal_infos known first formals ≡ []
+no_infos known first (More a rest) none = absurd (false≢true none)
+no_infos known first formals none = refl
+
+no_procedure : (front : Code) → is_front front ≡ false → is_procedure front ≡ true → ⊥
+no_procedure (Front d formals result) other procedure = true≢false other
+no_procedure _ other procedure = false≢true procedure
+
 main_plain : (known : Known) (front : Code) → is_procedure front ≡ true → agrees known front ≡ true → is_formless front ≡ true → formals_in known (front_number front) ≡ []
-main_plain known (Front d (More a rest) NoMore) procedure agree none = absurd (false≢true none)
-main_plain known (Front d formals NoMore) procedure agree none =
-    same_none known.table (formals_in known (declared_number d))
-    (and_first (same_formals known.table (formals_in known (declared_number d)) []) (same_result known (profile_of (entry_of known (declared_number d))).result NoMore) agree)
-main_plain known front procedure agree none = absurd (false≢true procedure)
+main_plain known = on_front (λ front. is_procedure front ≡ true → agrees known front ≡ true → is_formless front ≡ true → formals_in known (front_number front) ≡ [])
+    (λ d formals result procedure agree none.
+    let there : List FormalInfo = formals_in known (declared_number d) in
+    let here : List FormalInfo = formal_infos known (anonymous_result result) formals in
+    same_none known.table there
+    (subst (λ fs. same_formals known.table there fs ≡ true) (no_infos known (anonymous_result result) formals none)
+    (and_first (same_formals known.table there here) (same_result known (profile_of (entry_of known (declared_number d))).result result) agree)))
+    (λ front other procedure agree none. absurd (no_procedure front other procedure))
 
 -- ---- subprograms and the numbers of their declarations
 

@@ -5,6 +5,7 @@ pub mod TypedTexts
 -- names
 pub mod Denoted
 -- subprograms
+pub mod FirstFormals
 pub mod Profiled
 pub mod Traversed
 -- the law

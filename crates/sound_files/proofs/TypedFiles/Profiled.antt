@@ -39,6 +39,7 @@ use Rattle.soundness.proofs.TypedLaws.Agreeing.{of_known, holds, nil_left, nil_r
 use Rattle.settled_types.specs.OrderLaws.ScopeLaws.Code.{Once}
 use Rattle.name_events.proofs.Searches.{same_is}
 use Rattle.soundness.proofs.TypedLaws.Steps.{seen_access}
+use Rattle.sound_files.proofs.TypedFiles.FirstFormals.{on_first}
 use Rattle.soundness.proofs.TypedLaws.Cases.{is_access_view}
 use Rattle.soundness.proofs.TypedLaws.TypedPoints.Sources.{anonymous_shape}
 use Rattle.settled_types.specs.GatheredLaws.Components.{AreWordsApart}
@@ -490,9 +491,14 @@ module _ (p : Program) (formed : IsTrue (all_formed p.units)) (orderly : IsOrder
 
   -- ---- what a traversal goes through
 
+  head_same : (x o : ℕ) (xs rest : List ℕ) → x ∷ xs ≡ o ∷ rest → x ≡ o
+  head_same x o xs rest e = cc
+
   first_access : (k : Context) → k.known ≡ known → (f : Bool) (r : Option ℕ) (formals : Code) → HasFirst formals → formals_faults k f r true formals ≡ [] → GroupsDeclared formals
       → AreGroupsTyped known formals → (o : ℕ) (rest : List ℕ) → flat_map (formal_numbers s) (code_items formals) ≡ o ∷ rest → is_scalar (full table (object_at y o).of) ≡ false
-  first_access k same f r (More (Formals (More d ids) m of) more) first none declared typed o rest e =
+  first_access k same f r formals first = on_first (λ formals. formals_faults k f r true formals ≡ [] → GroupsDeclared formals
+      → AreGroupsTyped known formals → (o : ℕ) (rest : List ℕ) → flat_map (formal_numbers s) (code_items formals) ≡ o ∷ rest → is_scalar (full table (object_at y o).of) ≡ false)
+      (λ d ids m of more none declared typed o rest e.
       let u : ℕ = indicated known (declared_number d) of in
       let groups : formals_group k f r true (Formals (More d ids) m of) ≡ [] = nil_left (formals_group k f r true (Formals (More d ids) m of)) _ none in
       let here : formal_faults k f r true m of d ≡ []
@@ -511,16 +517,11 @@ module _ (p : Program) (formed : IsTrue (all_formed p.units)) (orderly : IsOrder
       = subst (λ z. shape_of z.table (indicated z (declared_number d) of) ≡ shape.Access found.0 found.1 found.2) same defined in
       let info : ObjectInfo = typed.0.0.0 in
       let at : (object_at y (object_number s (declared_number d))).of ≡ info.of = named (declared_number d) info typed.0.0.1 (there m (declared_number d) declared.0.0) in
-      let name : object_number s (declared_number d) ≡ o = head_same e in
+      let name : object_number s (declared_number d) ≡ o = head_same (object_number s (declared_number d)) o _ rest e in
       subst (λ z. is_scalar (full table (object_at y z).of) ≡ false) name
-      (ap (λ t. is_scalar (full table t)) (at ∙ typed.0.0.2) ∙ ap (λ z. is_scalar (view_of z)) shaped)
-    where
-      head_same : object_number s (declared_number d) ∷ (map (λ z. object_number s (declared_number z)) (code_items ids) ++ flat_map (formal_numbers s) (code_items more)) ≡ o ∷ rest
-          → object_number s (declared_number d) ≡ o
-      head_same e = cc
-  first_access k same f r (More (Formals ids m of) more) first none declared typed o rest e = absurd first
-  first_access k same f r (More group more) first none declared typed o rest e = absurd first
-  first_access k same f r formals first none declared typed o rest e = absurd (true≢false (ap is_nil e))
+      (ap (λ t. is_scalar (full table t)) (at ∙ typed.0.0.2) ∙ ap (λ z. is_scalar (view_of z)) shaped))
+      (λ none declared typed o rest e. absurd (true≢false (ap is_nil e)))
+      formals first
 
   pub seen_anonymous : (v : View) → anonymous_view v ≡ true → is_anonymous v ≡ true
   seen_anonymous (view.Access d constant true) e = absurd (false≢true e)

@@ -35,6 +35,7 @@ use Rattle.std.proofs.lemmas.Bool.{false≢true, true≢false}
 use Rattle.soundness.specs.TypedLaws.Fine.{Laws}
 use Rattle.soundness.proofs.TypedLaws.Agreeing.{of_known, holds, nil_left, nil_right, and_left, and_right}
 use Rattle.soundness.proofs.TypedLaws.Steps.{seen_access}
+use Rattle.sound_files.proofs.TypedFiles.FirstFormals.{on_first}
 use Rattle.soundness.proofs.TypedLaws.Cases.{is_access_view}
 use Rattle.settled_types.specs.OrderLaws.ScopeLaws.Code.{Once}
 use Rattle.settled_types.specs.GatheredLaws.Views.{AreViewsApart}
@@ -145,10 +146,28 @@ module _ (p : Program) (formed : IsTrue (all_formed p.units)) (orderly : IsOrder
       absurd (true≢false (sym later.0))
   ids_first k f r traversed m of ids x same none declared typed has view = absurd has
 
+  later_none : (k : Context) (f : Bool) (r : Option ℕ) (formals : Code) (x : ℕ) → k.known ≡ known → formals_faults k f r false formals ≡ []
+      → Declares formals → AreGroupsTyped known formals → Has (flat_map (formal_numbers s) (code_items formals)) x → anonymous_view (full table (object_at y x).of) ≡ true → ⊥
+  later_none k f r (More (Formals ids m of) more) x same none declared typed has view =
+      let here : List ℕ = map (λ z. object_number s (declared_number z)) (code_items ids) in
+      let later : List ℕ = flat_map (formal_numbers s) (code_items more) in
+      let group = nil_left (formals_group k f r false (Formals ids m of)) (formals_faults k f r false more) none in
+      elim (Has-append_cases here later x has) [
+        | inl mine ↦ (
+            let one = ids_first k f r false m of ids x same (nil_right (indication_faults k.known of) _ group) declared.0 typed.0 mine view in
+            true≢false (sym one.0))
+        | inr other ↦ later_none k f r more x same (nil_right (formals_group k f r false (Formals ids m of)) (formals_faults k f r false more) none) declared.2 typed.1 other view
+      ]
+  later_none k f r (More group more) x same none declared typed has view = later_none k f r more x same none declared typed.1 has view
+  later_none k f r formals x same none declared typed has view = absurd has
+
   groups_first : (k : Context) (f : Bool) (r : Option ℕ) (traversed : Bool) (formals : Code) (x : ℕ) → k.known ≡ known → HasFirst formals → formals_faults k f r traversed formals ≡ []
       → Declares formals → AreGroupsTyped known formals → Has (flat_map (formal_numbers s) (code_items formals)) x → anonymous_view (full table (object_at y x).of) ≡ true
       → IsFirst traversed (flat_map (formal_numbers s) (code_items formals)) x
-  groups_first k f r traversed (More (Formals (More d ids) m of) more) x same first none declared typed has view =
+  groups_first k f r traversed formals x same first = on_first (λ formals. formals_faults k f r traversed formals ≡ [] → Declares formals → AreGroupsTyped known formals
+      → Has (flat_map (formal_numbers s) (code_items formals)) x → anonymous_view (full table (object_at y x).of) ≡ true
+      → IsFirst traversed (flat_map (formal_numbers s) (code_items formals)) x)
+      (λ d ids m of more none declared typed has view.
       let here : List ℕ = map (λ z. object_number s (declared_number z)) (code_items (More d ids)) in
       let later : List ℕ = flat_map (formal_numbers s) (code_items more) in
       let group = nil_left (formals_group k f r traversed (Formals (More d ids) m of)) (formals_faults k f r false more) none in
@@ -157,25 +176,9 @@ module _ (p : Program) (formed : IsTrue (all_formed p.units)) (orderly : IsOrder
             let one = ids_first k f r traversed m of (More d ids) x same (nil_right (indication_faults k.known of) _ group) declared.0 typed.0 mine view in
             (one.0, one.1 ++ later, ap (λ zs. zs ++ later) one.2))
         | inr other ↦ absurd (later_none k f r more x same (nil_right (formals_group k f r traversed (Formals (More d ids) m of)) (formals_faults k f r false more) none) declared.2 typed.1 other view)
-      ]
-    where
-      later_none : (k : Context) (f : Bool) (r : Option ℕ) (formals : Code) (x : ℕ) → k.known ≡ known → formals_faults k f r false formals ≡ []
-          → Declares formals → AreGroupsTyped known formals → Has (flat_map (formal_numbers s) (code_items formals)) x → anonymous_view (full table (object_at y x).of) ≡ true → ⊥
-      later_none k f r (More (Formals ids m of) more) x same none declared typed has view =
-          let here : List ℕ = map (λ z. object_number s (declared_number z)) (code_items ids) in
-          let later : List ℕ = flat_map (formal_numbers s) (code_items more) in
-          let group = nil_left (formals_group k f r false (Formals ids m of)) (formals_faults k f r false more) none in
-          elim (Has-append_cases here later x has) [
-            | inl mine ↦ (
-                let one = ids_first k f r false m of ids x same (nil_right (indication_faults k.known of) _ group) declared.0 typed.0 mine view in
-                true≢false (sym one.0))
-            | inr other ↦ later_none k f r more x same (nil_right (formals_group k f r false (Formals ids m of)) (formals_faults k f r false more) none) declared.2 typed.1 other view
-          ]
-      later_none k f r (More group more) x same none declared typed has view = later_none k f r more x same none declared typed.1 has view
-      later_none k f r formals x same none declared typed has view = absurd has
-  groups_first k f r traversed (More (Formals ids m of) more) x same first none declared typed has view = absurd first
-  groups_first k f r traversed (More group more) x same first none declared typed has view = absurd first
-  groups_first k f r traversed formals x same first none declared typed has view = absurd has
+      ])
+      (λ none declared typed has view. absurd has)
+      formals first
 
   -- where a front is that of a traversal function, so is the profile of its declaration
   result_shown : (k : Known) → k ≡ known → (n : ℕ) (formals result : Code) (r : Option ℕ) → result_faults known result ≡ [] → same_result known r result ≡ true
@@ -214,7 +217,9 @@ module _ (p : Program) (formed : IsTrue (all_formed p.units)) (orderly : IsOrder
 
   first_there : (k : Context) → k.known ≡ known → (f : Bool) (r : Option ℕ) (formals : Code) → HasFirst formals → has_none formals ≡ false → formals_faults k f r true formals ≡ []
       → Declares formals → AreGroupsTyped known formals → IsTraversable (flat_map (formal_numbers s) (code_items formals))
-  first_there k same f r (More (Formals (More d ids) m of) more) first some none declared typed =
+  first_there k same f r formals first = on_first (λ formals. has_none formals ≡ false → formals_faults k f r true formals ≡ [] → Declares formals
+      → AreGroupsTyped known formals → IsTraversable (flat_map (formal_numbers s) (code_items formals)))
+      (λ d ids m of more some none declared typed.
       let groups = nil_left (formals_group k f r true (Formals (More d ids) m of)) _ none in
       let here = nil_left (formal_faults k f r true m of d) _ (nil_right (indication_faults k.known of) _ groups) in
       let last = holds 6 (declared_pos d) (not (true && indicates_type k.known of) || is_traversable k r m (indicated k.known (declared_number d) of))
@@ -236,11 +241,9 @@ module _ (p : Program) (formed : IsTrue (all_formed p.units)) (orderly : IsOrder
         found.1,
         found.2,
         ap (shape_of table) own ∙ shaped,
-      )
-  first_there k same f r (More (Formals ids m of) more) first some none declared typed = absurd first
-  first_there k same f r (More group more) first some none declared typed = absurd first
-  first_there k same f r NoMore first some none declared typed = absurd (true≢false some)
-  first_there k same f r formals first some none declared typed = absurd first
+      ))
+      (λ some none declared typed. absurd (true≢false some))
+      formals first
 
   traversed_first : (x formals result : Code) (good : IsGoodFront known all (Front x formals result)) (r : Option ℕ) → r ≡ (profile_of (entry_of known (declared_number x))).result
       → traverses table r ≡ true → IsTraversable (flat_map (formal_numbers s) (code_items formals))
