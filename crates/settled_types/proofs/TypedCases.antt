@@ -1,10 +1,13 @@
 -- A law on typed code and its lists, by its forms: what has no form of its own is checked once, and not once for each form.
-use Rattle.std.proofs.Common.{◌≡◌, ℕ, ℤ, Bool, true, false, List, [], refl, true≢false}
+use Rattle.std.proofs.Common.{◌≡◌, ℕ, ℤ, Bool, true, false, List, [], refl, sym, true≢false}
 use Rattle.machine.specs.spark_base.declared.position.Pos.{Pos}
-use Rattle.machine.specs.typed_tree.Trees.{TypedTree, TypedCode, Declare, Assign, Skip, Output, Input, Release, If, Branch, Case, When, Loop, While, For, Exit, Return, Block}
+use Rattle.machine.specs.typed_tree.Trees.{TypedTree, Name, Component, Designated, Element, Image, Parens, Unary, Binary, Short, IsNull, Aggregate, Alike, New, TypedCode, Declare, Assign, Skip, Output, Input, Release, If, Branch, Case, When, Loop, While, For, Exit, Return, Block}
 use Rattle.machine.specs.typed_tree.Trees as typed
+use Rattle.machine.specs.typed_tree.declared.node.ShortCircuit.{ShortCircuit}
+use Rattle.machine.specs.resolved_tree.declared.operator.Operator.{Operator}
+use Rattle.machine.specs.resolved_tree.declared.operator.UnaryOperator.{UnaryOperator}
 use Rattle.machine.specs.flow_paths.Points.{Place, PointName}
-use Rattle.machine.specs.flow_paths.Prep.{Setting}
+use Rattle.machine.specs.flow_paths.Prep.{Setting, held, prep}
 use Rattle.machine.specs.flow_paths.Layout.{Around, laid, laid_branches, laid_branch, laid_whens, laid_when}
 
 abbrev pub is_statement : TypedCode → Bool
@@ -122,3 +125,70 @@ pub when_none : (s : Setting) (c : TypedCode) (at : Place) (w : Around) (k : Lis
 unfolding laid_when
 when_none s (When choices stmts) at w k other = absurd (true≢false other)
 when_none s _ at w k other = refl
+
+-- ---- expressions, and steps and lists of them
+
+abbrev pub is_plain : TypedTree → Bool
+is_plain (typed.Number n) = true
+is_plain (typed.Literal n) = true
+is_plain typed.Null = true
+is_plain (typed.Text text) = true
+is_plain typed.EndOfFile = true
+is_plain typed.NoMore = true
+is_plain _ = false
+
+pub record TreeLaws (Of : TypedTree → Type 0) : Type 0 where
+  pub call : (p : Pos) (sub : ℕ) (actuals : TypedTree) → Of actuals → Of (typed.Call p sub actuals)
+  pub short : (op : ShortCircuit) (p : Pos) (a : TypedTree) (q : Pos) (b : TypedTree) → Of a → Of b → Of (Short op p a q b)
+  pub binary : (op : Operator) (a b : TypedTree) → Of a → Of b → Of (Binary op a b)
+  pub list : (a rest : TypedTree) → Of a → Of rest → Of (typed.More a rest)
+  pub element : (index : TypedTree) (low high : ℤ) (rest : TypedTree) → Of index → Of rest → Of (Element index low high rest)
+  pub name : (p : Pos) (x : ℕ) (steps : TypedTree) (t : ℕ) → Of steps → Of (Name p x steps t)
+  pub component : (i : ℕ) (rest : TypedTree) → Of rest → Of (Component i rest)
+  pub designated : (rest : TypedTree) → Of rest → Of (Designated rest)
+  pub image : (t : ℕ) (e : TypedTree) → Of e → Of (Image t e)
+  pub parens : (e : TypedTree) → Of e → Of (Parens e)
+  pub unary : (op : UnaryOperator) (e : TypedTree) → Of e → Of (Unary op e)
+  pub is_null : (equal : Bool) (e : TypedTree) → Of e → Of (IsNull equal e)
+  pub aggregate : (t : ℕ) (parts : TypedTree) → Of parts → Of (Aggregate t parts)
+  pub alike : (t : ℕ) (e : TypedTree) → Of e → Of (Alike t e)
+  pub allocator : (t : ℕ) (v : TypedTree) → Of v → Of (New t v)
+  pub others : (e : TypedTree) → is_plain e ≡ true → Of e
+
+pub on_tree : {Of : TypedTree → Type 0} → TreeLaws Of → (e : TypedTree) → Of e
+on_tree of (typed.Call p sub actuals) = of.call p sub actuals (on_tree of actuals)
+on_tree of (Short op p a q b) = of.short op p a q b (on_tree of a) (on_tree of b)
+on_tree of (Binary op a b) = of.binary op a b (on_tree of a) (on_tree of b)
+on_tree of (typed.More a rest) = of.list a rest (on_tree of a) (on_tree of rest)
+on_tree of (Element index low high rest) = of.element index low high rest (on_tree of index) (on_tree of rest)
+on_tree of (Name p x steps t) = of.name p x steps t (on_tree of steps)
+on_tree of (Component i rest) = of.component i rest (on_tree of rest)
+on_tree of (Designated rest) = of.designated rest (on_tree of rest)
+on_tree of (Image t e) = of.image t e (on_tree of e)
+on_tree of (Parens e) = of.parens e (on_tree of e)
+on_tree of (Unary op e) = of.unary op e (on_tree of e)
+on_tree of (IsNull equal e) = of.is_null equal e (on_tree of e)
+on_tree of (Aggregate t parts) = of.aggregate t parts (on_tree of parts)
+on_tree of (Alike t e) = of.alike t e (on_tree of e)
+on_tree of (New t v) = of.allocator t v (on_tree of v)
+on_tree of e = of.others e refl
+
+pub plain_prep : (s : Setting) (e : TypedTree) (at : Place) (scope : List ℕ) (k : List PointName) → is_plain e ≡ true → prep s e at scope k ≡ []
+unfolding prep
+plain_prep s (typed.Number n) at scope k plain = refl
+plain_prep s (typed.Literal n) at scope k plain = refl
+plain_prep s typed.Null at scope k plain = refl
+plain_prep s (typed.Text text) at scope k plain = refl
+plain_prep s typed.EndOfFile at scope k plain = refl
+plain_prep s typed.NoMore at scope k plain = refl
+plain_prep s _ at scope k plain = absurd (true≢false (sym plain))
+
+pub plain_held : (s : Setting) (e : TypedTree) (at : Place) → is_plain e ≡ true → held s e at ≡ []
+unfolding held
+plain_held s (typed.Number n) at plain = refl
+plain_held s (typed.Literal n) at plain = refl
+plain_held s typed.Null at plain = refl
+plain_held s (typed.Text text) at plain = refl
+plain_held s typed.EndOfFile at plain = refl
+plain_held s typed.NoMore at plain = refl
+plain_held s _ at plain = absurd (true≢false (sym plain))

@@ -11,6 +11,7 @@ use Rattle.machine.specs.flow_paths.Points.{Place, PointName, row_at, NamedPoint
 use Rattle.machine.specs.flow_paths.Prep.{Setting, with_held, prep}
 use Rattle.machine.specs.flow_paths.Layout.{Around, with_scope, declared, laid}
 use Rattle.machine.specs.flow_paths.Laid.{around_body, elaboration_points}
+use Rattle.settled_types.proofs.TypedCases.{on_tree, plain_prep}
 use Rattle.settled_types.proofs.OrderLaws.ScopeLaws.Lists.{and_first, and_second, all_both, all_one}
 use Rattle.settled_types.specs.OrderLaws.ReadyLaws.InOrder.{declares_only}
 use Rattle.settled_types.specs.OrderLaws.PackageValues.Calls.{calls_nothing}
@@ -36,39 +37,52 @@ other true ps qs e h = absurd (true≢false e)
 -- An expression without calls has no points of its own.
 prep_none : (s : Setting) (e : TypedTree) (at : Place) (scope : List ℕ) (k : List PointName) → has_call e ≡ false → Empty (prep s e at scope k)
 unfolding prep has_call
-prep_none s (typed.Call p sub actuals) at scope k none = absurd (true≢false none)
-prep_none s (Short op p a q b) at scope k none =
-    let both = neither (has_call a) (has_call b) none in
-    let behind : List NamedPoint = prep s b (1 ∷ at) (with_held s a (0 ∷ at) scope) k in
-    other (has_call b) _ (prep s a (0 ∷ at) scope (entry behind k) ++ behind) both.1
-    (all_both IsNone (prep s a (0 ∷ at) scope (entry behind k)) behind (prep_none s a (0 ∷ at) scope (entry behind k) both.0)
-    (prep_none s b (1 ∷ at) (with_held s a (0 ∷ at) scope) k both.1))
-prep_none s (Binary op a b) at scope k none =
-    let both = neither (has_call a) (has_call b) none in
-    let behind : List NamedPoint = prep s b (1 ∷ at) (with_held s a (0 ∷ at) scope) k in
-    all_both IsNone (prep s a (0 ∷ at) scope (entry behind k)) behind (prep_none s a (0 ∷ at) scope (entry behind k) both.0)
-    (prep_none s b (1 ∷ at) (with_held s a (0 ∷ at) scope) k both.1)
-prep_none s (typed.More a b) at scope k none =
-    let both = neither (has_call a) (has_call b) none in
-    let behind : List NamedPoint = prep s b (1 ∷ at) (with_held s a (0 ∷ at) scope) k in
-    all_both IsNone (prep s a (0 ∷ at) scope (entry behind k)) behind (prep_none s a (0 ∷ at) scope (entry behind k) both.0)
-    (prep_none s b (1 ∷ at) (with_held s a (0 ∷ at) scope) k both.1)
-prep_none s (Element a low high b) at scope k none =
-    let both = neither (has_call a) (has_call b) none in
-    let behind : List NamedPoint = prep s b (1 ∷ at) (with_held s a (0 ∷ at) scope) k in
-    all_both IsNone (prep s a (0 ∷ at) scope (entry behind k)) behind (prep_none s a (0 ∷ at) scope (entry behind k) both.0)
-    (prep_none s b (1 ∷ at) (with_held s a (0 ∷ at) scope) k both.1)
-prep_none s (Name p x e t) at scope k none = prep_none s e (0 ∷ at) scope k none
-prep_none s (Component i e) at scope k none = prep_none s e (0 ∷ at) scope k none
-prep_none s (Designated e) at scope k none = prep_none s e (0 ∷ at) scope k none
-prep_none s (Image t e) at scope k none = prep_none s e (0 ∷ at) scope k none
-prep_none s (Parens e) at scope k none = prep_none s e (0 ∷ at) scope k none
-prep_none s (Unary op e) at scope k none = prep_none s e (0 ∷ at) scope k none
-prep_none s (IsNull equal e) at scope k none = prep_none s e (0 ∷ at) scope k none
-prep_none s (Aggregate t e) at scope k none = prep_none s e (0 ∷ at) scope k none
-prep_none s (Alike t e) at scope k none = prep_none s e (0 ∷ at) scope k none
-prep_none s (New t e) at scope k none = prep_none s e (0 ∷ at) scope k none
-prep_none s e at scope k none = tt
+prep_none s = on_tree {Of = λ e. (at : Place) → (scope : List ℕ) → (k : List PointName) → has_call e ≡ false → Empty (prep s e at scope k)} (record {
+  call = λ p sub actuals _ at scope k none.
+      absurd (true≢false none);
+  short = λ op p a q b by_a by_b at scope k none.
+      let both = neither (has_call a) (has_call b) none in
+      let behind : List NamedPoint = prep s b (1 ∷ at) (with_held s a (0 ∷ at) scope) k in
+      other (has_call b) _ (prep s a (0 ∷ at) scope (entry behind k) ++ behind) both.1
+      (all_both IsNone (prep s a (0 ∷ at) scope (entry behind k)) behind (by_a (0 ∷ at) scope (entry behind k) both.0)
+      (by_b (1 ∷ at) (with_held s a (0 ∷ at) scope) k both.1));
+  binary = λ op a b by_a by_b at scope k none.
+      let both = neither (has_call a) (has_call b) none in
+      let behind : List NamedPoint = prep s b (1 ∷ at) (with_held s a (0 ∷ at) scope) k in
+      all_both IsNone (prep s a (0 ∷ at) scope (entry behind k)) behind (by_a (0 ∷ at) scope (entry behind k) both.0)
+      (by_b (1 ∷ at) (with_held s a (0 ∷ at) scope) k both.1);
+  list = λ a b by_a by_b at scope k none.
+      let both = neither (has_call a) (has_call b) none in
+      let behind : List NamedPoint = prep s b (1 ∷ at) (with_held s a (0 ∷ at) scope) k in
+      all_both IsNone (prep s a (0 ∷ at) scope (entry behind k)) behind (by_a (0 ∷ at) scope (entry behind k) both.0)
+      (by_b (1 ∷ at) (with_held s a (0 ∷ at) scope) k both.1);
+  element = λ a low high b by_a by_b at scope k none.
+      let both = neither (has_call a) (has_call b) none in
+      let behind : List NamedPoint = prep s b (1 ∷ at) (with_held s a (0 ∷ at) scope) k in
+      all_both IsNone (prep s a (0 ∷ at) scope (entry behind k)) behind (by_a (0 ∷ at) scope (entry behind k) both.0)
+      (by_b (1 ∷ at) (with_held s a (0 ∷ at) scope) k both.1);
+  name = λ p x e t by_e at scope k none.
+      by_e (0 ∷ at) scope k none;
+  component = λ i e by_e at scope k none.
+      by_e (0 ∷ at) scope k none;
+  designated = λ e by_e at scope k none.
+      by_e (0 ∷ at) scope k none;
+  image = λ t e by_e at scope k none.
+      by_e (0 ∷ at) scope k none;
+  parens = λ e by_e at scope k none.
+      by_e (0 ∷ at) scope k none;
+  unary = λ op e by_e at scope k none.
+      by_e (0 ∷ at) scope k none;
+  is_null = λ equal e by_e at scope k none.
+      by_e (0 ∷ at) scope k none;
+  aggregate = λ t e by_e at scope k none.
+      by_e (0 ∷ at) scope k none;
+  alike = λ t e by_e at scope k none.
+      by_e (0 ∷ at) scope k none;
+  allocator = λ t e by_e at scope k none.
+      by_e (0 ∷ at) scope k none;
+  others = λ e plain at scope k none. rw (plain_prep s e at scope k plain) (tt);
+})
 
 abbrev pub Declares : NamedPoint → Type 0
 Declares p = (x : ℕ) × (v : TypedTree) × (p.instr ≡ Declare x v) × (has_call v ≡ false)

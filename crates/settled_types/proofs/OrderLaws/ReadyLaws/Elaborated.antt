@@ -14,6 +14,7 @@ use Rattle.machine.specs.flow_paths.Points.{Place, PointName, row_at, NamedPoint
 use Rattle.machine.specs.flow_paths.Prep.{Setting, with_held, prep}
 use Rattle.machine.specs.flow_paths.Layout.{Around, with_scope, declared, laid}
 use Rattle.machine.specs.flow_paths.Laid.{around_body, elaboration_points}
+use Rattle.settled_types.proofs.TypedCases.{on_tree, plain_prep}
 use Rattle.soundness.specs.Sound.{calls_procedures}
 use Rattle.settled_types.specs.OrderLaws.ScopeLaws.Code.{roots}
 use Rattle.settled_types.proofs.OrderLaws.ScopeLaws.Lists.{and_first, and_second, all_both, all_one, all_if, all_has}
@@ -36,35 +37,47 @@ one_more ps p h g = all_one Calls ps p h g
 
 prep_calls : (s : Setting) (e : TypedTree) (at : Place) (scope : List ℕ) (k : List PointName) → AllByRecursion Calls (prep s e at scope k)
 unfolding prep
-prep_calls s (typed.Call p sub actuals) at scope k =
-    one_more (prep s actuals (0 ∷ at) scope (row_at at 0 ∷ [])) _ (prep_calls s actuals (0 ∷ at) scope (row_at at 0 ∷ [])) not_false
-prep_calls s (Short op p a q b) at scope k =
-    let right : List NamedPoint = prep s b (1 ∷ at) (s.temporary at ∷ scope) (row_at at 1 ∷ []) in
-    let behind : List NamedPoint = prep s b (1 ∷ at) (with_held s a (0 ∷ at) scope) k in
-    all_if Calls (has_call b) _ _
-    (both (prep s a (0 ∷ at) scope (row_at at 0 ∷ [])) _ (prep_calls s a (0 ∷ at) scope (row_at at 0 ∷ []))
-    (not_false, one_more right _ (prep_calls s b (1 ∷ at) (s.temporary at ∷ scope) (row_at at 1 ∷ [])) not_false))
-    (both (prep s a (0 ∷ at) scope (entry behind k)) behind (prep_calls s a (0 ∷ at) scope (entry behind k)) (prep_calls s b (1 ∷ at) (with_held s a (0 ∷ at) scope) k))
-prep_calls s (Binary op a b) at scope k =
-    let behind : List NamedPoint = prep s b (1 ∷ at) (with_held s a (0 ∷ at) scope) k in
-    both (prep s a (0 ∷ at) scope (entry behind k)) behind (prep_calls s a (0 ∷ at) scope (entry behind k)) (prep_calls s b (1 ∷ at) (with_held s a (0 ∷ at) scope) k)
-prep_calls s (typed.More a b) at scope k =
-    let behind : List NamedPoint = prep s b (1 ∷ at) (with_held s a (0 ∷ at) scope) k in
-    both (prep s a (0 ∷ at) scope (entry behind k)) behind (prep_calls s a (0 ∷ at) scope (entry behind k)) (prep_calls s b (1 ∷ at) (with_held s a (0 ∷ at) scope) k)
-prep_calls s (Element a low high b) at scope k =
-    let behind : List NamedPoint = prep s b (1 ∷ at) (with_held s a (0 ∷ at) scope) k in
-    both (prep s a (0 ∷ at) scope (entry behind k)) behind (prep_calls s a (0 ∷ at) scope (entry behind k)) (prep_calls s b (1 ∷ at) (with_held s a (0 ∷ at) scope) k)
-prep_calls s (Name p x e t) at scope k = prep_calls s e (0 ∷ at) scope k
-prep_calls s (Component i e) at scope k = prep_calls s e (0 ∷ at) scope k
-prep_calls s (Designated e) at scope k = prep_calls s e (0 ∷ at) scope k
-prep_calls s (Image t e) at scope k = prep_calls s e (0 ∷ at) scope k
-prep_calls s (Parens e) at scope k = prep_calls s e (0 ∷ at) scope k
-prep_calls s (Unary op e) at scope k = prep_calls s e (0 ∷ at) scope k
-prep_calls s (IsNull equal e) at scope k = prep_calls s e (0 ∷ at) scope k
-prep_calls s (Aggregate t e) at scope k = prep_calls s e (0 ∷ at) scope k
-prep_calls s (Alike t e) at scope k = prep_calls s e (0 ∷ at) scope k
-prep_calls s (New t e) at scope k = prep_calls s e (0 ∷ at) scope k
-prep_calls s _ at scope k = tt
+prep_calls s = on_tree {Of = λ e. (at : Place) → (scope : List ℕ) → (k : List PointName) → AllByRecursion Calls (prep s e at scope k)} (record {
+  call = λ p sub actuals by_actuals at scope k.
+      one_more (prep s actuals (0 ∷ at) scope (row_at at 0 ∷ [])) _ (by_actuals (0 ∷ at) scope (row_at at 0 ∷ [])) not_false;
+  short = λ op p a q b by_a by_b at scope k.
+      let right : List NamedPoint = prep s b (1 ∷ at) (s.temporary at ∷ scope) (row_at at 1 ∷ []) in
+      let behind : List NamedPoint = prep s b (1 ∷ at) (with_held s a (0 ∷ at) scope) k in
+      all_if Calls (has_call b) _ _
+      (both (prep s a (0 ∷ at) scope (row_at at 0 ∷ [])) _ (by_a (0 ∷ at) scope (row_at at 0 ∷ []))
+      (not_false, one_more right _ (by_b (1 ∷ at) (s.temporary at ∷ scope) (row_at at 1 ∷ [])) not_false))
+      (both (prep s a (0 ∷ at) scope (entry behind k)) behind (by_a (0 ∷ at) scope (entry behind k)) (by_b (1 ∷ at) (with_held s a (0 ∷ at) scope) k));
+  binary = λ op a b by_a by_b at scope k.
+      let behind : List NamedPoint = prep s b (1 ∷ at) (with_held s a (0 ∷ at) scope) k in
+      both (prep s a (0 ∷ at) scope (entry behind k)) behind (by_a (0 ∷ at) scope (entry behind k)) (by_b (1 ∷ at) (with_held s a (0 ∷ at) scope) k);
+  list = λ a b by_a by_b at scope k.
+      let behind : List NamedPoint = prep s b (1 ∷ at) (with_held s a (0 ∷ at) scope) k in
+      both (prep s a (0 ∷ at) scope (entry behind k)) behind (by_a (0 ∷ at) scope (entry behind k)) (by_b (1 ∷ at) (with_held s a (0 ∷ at) scope) k);
+  element = λ a low high b by_a by_b at scope k.
+      let behind : List NamedPoint = prep s b (1 ∷ at) (with_held s a (0 ∷ at) scope) k in
+      both (prep s a (0 ∷ at) scope (entry behind k)) behind (by_a (0 ∷ at) scope (entry behind k)) (by_b (1 ∷ at) (with_held s a (0 ∷ at) scope) k);
+  name = λ p x e t by_e at scope k.
+      by_e (0 ∷ at) scope k;
+  component = λ i e by_e at scope k.
+      by_e (0 ∷ at) scope k;
+  designated = λ e by_e at scope k.
+      by_e (0 ∷ at) scope k;
+  image = λ t e by_e at scope k.
+      by_e (0 ∷ at) scope k;
+  parens = λ e by_e at scope k.
+      by_e (0 ∷ at) scope k;
+  unary = λ op e by_e at scope k.
+      by_e (0 ∷ at) scope k;
+  is_null = λ equal e by_e at scope k.
+      by_e (0 ∷ at) scope k;
+  aggregate = λ t e by_e at scope k.
+      by_e (0 ∷ at) scope k;
+  alike = λ t e by_e at scope k.
+      by_e (0 ∷ at) scope k;
+  allocator = λ t e by_e at scope k.
+      by_e (0 ∷ at) scope k;
+  others = λ e plain at scope k. rw (plain_prep s e at scope k plain) (tt);
+})
 
 -- ---- declarations
 

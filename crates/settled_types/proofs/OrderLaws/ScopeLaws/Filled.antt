@@ -19,7 +19,7 @@ use Rattle.machine.specs.flow_paths.Prep.{Setting, prep}
 use Rattle.machine.specs.flow_paths.Layout.{Around, within_loop, within_block, with_scope, declared, from, ending, ends, uses, choices_of, laid, laid_branches, laid_branch, laid_whens, laid_when}
 use Rattle.machine.specs.flow_paths.Laid.{Temporary, temporary_object, filled, temporaries, numbers_from, unnumbered, around_body, scope_at_end, procedure_end, function_end, sub_points, sub_temporaries, NamedSub, named_sub, named_subs}
 use Rattle.machine.specs.flow_paths.Scopes.{is_temporary}
-use Rattle.settled_types.proofs.TypedCases.{Laws, branch_none, branches_none, laid_none, on_code, when_none, whens_none}
+use Rattle.settled_types.proofs.TypedCases.{Laws, branch_none, branches_none, laid_none, on_code, on_tree, plain_prep, when_none, whens_none}
 use Rattle.settled_types.specs.OrderLaws.ScopeLaws.Supplied.{FillsOne, IsFilling}
 use Rattle.settled_types.proofs.OrderLaws.ScopeLaws.Lists.{all_both}
 
@@ -67,34 +67,46 @@ module _ (t : Typing) (z u : Setting) where
 
   prep_walk : (e : TypedTree) (at : Place) (scope scope' : List ℕ) (k k' : List PointName) → Walk (prep z e at scope k) (prep u e at scope' k')
   unfolding prep
-  prep_walk (typed.Call p sub actuals) at scope scope' k k' =
-      joined (prep z actuals (0 ∷ at) scope (row_at at 0 ∷ [])) _ (prep u actuals (0 ∷ at) scope' (row_at at 0 ∷ [])) _
-      (prep_walk actuals (0 ∷ at) scope scope' (row_at at 0 ∷ []) (row_at at 0 ∷ [])) (one _ _ refl (refl, refl))
-  prep_walk (Short op p a q b) at scope scope' k k' =
-      either (has_call b) _ _ _ _
-      (joined (prep z a (0 ∷ at) scope (row_at at 0 ∷ [])) _ (prep u a (0 ∷ at) scope' (row_at at 0 ∷ [])) _
-      (prep_walk a (0 ∷ at) scope scope' (row_at at 0 ∷ []) (row_at at 0 ∷ []))
-      (following _ _ _ _ refl (refl, refl)
-      (joined (prep z b (1 ∷ at) (z.temporary at ∷ scope) (row_at at 1 ∷ [])) _ (prep u b (1 ∷ at) (u.temporary at ∷ scope') (row_at at 1 ∷ [])) _
-      (prep_walk b (1 ∷ at) (z.temporary at ∷ scope) (u.temporary at ∷ scope') (row_at at 1 ∷ []) (row_at at 1 ∷ [])) (one _ _ refl tt))))
-      (joined (prep z a (0 ∷ at) scope _) _ (prep u a (0 ∷ at) scope' _) _ (prep_walk a (0 ∷ at) scope scope' _ _) (prep_walk b (1 ∷ at) _ _ k k'))
-  prep_walk (Binary op a b) at scope scope' k k' =
-      joined (prep z a (0 ∷ at) scope _) _ (prep u a (0 ∷ at) scope' _) _ (prep_walk a (0 ∷ at) scope scope' _ _) (prep_walk b (1 ∷ at) _ _ k k')
-  prep_walk (typed.More a b) at scope scope' k k' =
-      joined (prep z a (0 ∷ at) scope _) _ (prep u a (0 ∷ at) scope' _) _ (prep_walk a (0 ∷ at) scope scope' _ _) (prep_walk b (1 ∷ at) _ _ k k')
-  prep_walk (Element a low high b) at scope scope' k k' =
-      joined (prep z a (0 ∷ at) scope _) _ (prep u a (0 ∷ at) scope' _) _ (prep_walk a (0 ∷ at) scope scope' _ _) (prep_walk b (1 ∷ at) _ _ k k')
-  prep_walk (Name p x e t) at scope scope' k k' = prep_walk e (0 ∷ at) scope scope' k k'
-  prep_walk (Component i e) at scope scope' k k' = prep_walk e (0 ∷ at) scope scope' k k'
-  prep_walk (Designated e) at scope scope' k k' = prep_walk e (0 ∷ at) scope scope' k k'
-  prep_walk (Image t e) at scope scope' k k' = prep_walk e (0 ∷ at) scope scope' k k'
-  prep_walk (Parens e) at scope scope' k k' = prep_walk e (0 ∷ at) scope scope' k k'
-  prep_walk (Unary op e) at scope scope' k k' = prep_walk e (0 ∷ at) scope scope' k k'
-  prep_walk (IsNull equal e) at scope scope' k k' = prep_walk e (0 ∷ at) scope scope' k k'
-  prep_walk (Aggregate t e) at scope scope' k k' = prep_walk e (0 ∷ at) scope scope' k k'
-  prep_walk (Alike t e) at scope scope' k k' = prep_walk e (0 ∷ at) scope scope' k k'
-  prep_walk (New t e) at scope scope' k k' = prep_walk e (0 ∷ at) scope scope' k k'
-  prep_walk _ at scope scope' k k' = nothing
+  prep_walk = on_tree {Of = λ e. (at : Place) → (scope : List ℕ) → (scope' : List ℕ) → (k : List PointName) → (k' : List PointName) → Walk (prep z e at scope k) (prep u e at scope' k')} (record {
+    call = λ p sub actuals by_actuals at scope scope' k k'.
+        joined (prep z actuals (0 ∷ at) scope (row_at at 0 ∷ [])) _ (prep u actuals (0 ∷ at) scope' (row_at at 0 ∷ [])) _
+        (by_actuals (0 ∷ at) scope scope' (row_at at 0 ∷ []) (row_at at 0 ∷ [])) (one _ _ refl (refl, refl));
+    short = λ op p a q b on_a by_b at scope scope' k k'.
+        either (has_call b) _ _ _ _
+        (joined (prep z a (0 ∷ at) scope (row_at at 0 ∷ [])) _ (prep u a (0 ∷ at) scope' (row_at at 0 ∷ [])) _
+        (on_a (0 ∷ at) scope scope' (row_at at 0 ∷ []) (row_at at 0 ∷ []))
+        (following _ _ _ _ refl (refl, refl)
+        (joined (prep z b (1 ∷ at) (z.temporary at ∷ scope) (row_at at 1 ∷ [])) _ (prep u b (1 ∷ at) (u.temporary at ∷ scope') (row_at at 1 ∷ [])) _
+        (by_b (1 ∷ at) (z.temporary at ∷ scope) (u.temporary at ∷ scope') (row_at at 1 ∷ []) (row_at at 1 ∷ [])) (one _ _ refl tt))))
+        (joined (prep z a (0 ∷ at) scope _) _ (prep u a (0 ∷ at) scope' _) _ (on_a (0 ∷ at) scope scope' _ _) (by_b (1 ∷ at) _ _ k k'));
+    binary = λ op a b on_a by_b at scope scope' k k'.
+        joined (prep z a (0 ∷ at) scope _) _ (prep u a (0 ∷ at) scope' _) _ (on_a (0 ∷ at) scope scope' _ _) (by_b (1 ∷ at) _ _ k k');
+    list = λ a b on_a by_b at scope scope' k k'.
+        joined (prep z a (0 ∷ at) scope _) _ (prep u a (0 ∷ at) scope' _) _ (on_a (0 ∷ at) scope scope' _ _) (by_b (1 ∷ at) _ _ k k');
+    element = λ a low high b on_a by_b at scope scope' k k'.
+        joined (prep z a (0 ∷ at) scope _) _ (prep u a (0 ∷ at) scope' _) _ (on_a (0 ∷ at) scope scope' _ _) (by_b (1 ∷ at) _ _ k k');
+    name = λ p x e t by_e at scope scope' k k'.
+        by_e (0 ∷ at) scope scope' k k';
+    component = λ i e by_e at scope scope' k k'.
+        by_e (0 ∷ at) scope scope' k k';
+    designated = λ e by_e at scope scope' k k'.
+        by_e (0 ∷ at) scope scope' k k';
+    image = λ t e by_e at scope scope' k k'.
+        by_e (0 ∷ at) scope scope' k k';
+    parens = λ e by_e at scope scope' k k'.
+        by_e (0 ∷ at) scope scope' k k';
+    unary = λ op e by_e at scope scope' k k'.
+        by_e (0 ∷ at) scope scope' k k';
+    is_null = λ equal e by_e at scope scope' k k'.
+        by_e (0 ∷ at) scope scope' k k';
+    aggregate = λ t e by_e at scope scope' k k'.
+        by_e (0 ∷ at) scope scope' k k';
+    alike = λ t e by_e at scope scope' k k'.
+        by_e (0 ∷ at) scope scope' k k';
+    allocator = λ t e by_e at scope scope' k k'.
+        by_e (0 ∷ at) scope scope' k k';
+    others = λ e plain at scope scope' k k'. rw (plain_prep z e at scope k plain) rw (plain_prep u e at scope' k' plain) (nothing);
+  })
 
   uses_walk : (at : Place) (p : Pos) (e : TypedTree) (i : Instruction) (w v : Around) (next next' : List PointName) → Owned z (row_at at 0) i → Walk (uses z at p e i w next) (uses u at p e i v next')
   uses_walk at p e i w v next next' own =

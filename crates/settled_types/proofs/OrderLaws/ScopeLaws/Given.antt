@@ -16,7 +16,7 @@ use Rattle.machine.specs.flow_paths.Points.{Place, PointName, row_at, NamedPoint
 use Rattle.machine.specs.flow_paths.Prep.{Setting, held, with_held, prep}
 use Rattle.machine.specs.flow_paths.Layout.{Around, within_loop, within_block, with_scope, declared, from, ending, ends, uses, uses_both, uses_second_first, laid, laid_branches, laid_branch, laid_whens, laid_when, choices_of}
 use Rattle.machine.specs.flow_paths.Laid.{around_body, scope_at_end, procedure_end, function_end, sub_points}
-use Rattle.settled_types.proofs.TypedCases.{Laws, branch_none, branches_none, laid_none, on_code, when_none, whens_none}
+use Rattle.settled_types.proofs.TypedCases.{Laws, branch_none, branches_none, laid_none, on_code, on_tree, plain_held, plain_prep, when_none, whens_none}
 use Rattle.settled_types.specs.OrderLaws.ScopeLaws.Returning.{is_return}
 
 -- An object is declared with this alone, or it is assigned or returned.
@@ -46,28 +46,41 @@ neither false b e = (refl, e)
 -- an expression without calls holds nothing
 pub none_held : (s : Setting) (e : TypedTree) (at : Place) → has_call e ≡ false → held s e at ≡ []
 unfolding held has_call
-none_held s (typed.Call p sub actuals) at none = absurd (true≢false none)
-none_held s (Short op p a q b) at none =
-    let two = neither (has_call a) (has_call b) none in
-    ap (λ z. if z then s.temporary at ∷ [] else held s b (1 ∷ at) ++ held s a (0 ∷ at)) two.1
-    ∙ (λ j. none_held s b (1 ∷ at) two.1 j ++ none_held s a (0 ∷ at) two.0 j)
-none_held s (Name p x steps t) at none = none_held s steps (0 ∷ at) none
-none_held s (Component i rest) at none = none_held s rest (0 ∷ at) none
-none_held s (Designated rest) at none = none_held s rest (0 ∷ at) none
-none_held s (Element index low high rest) at none =
-    (let two = neither (has_call index) (has_call rest) none in (λ j. none_held s rest (1 ∷ at) two.1 j ++ none_held s index (0 ∷ at) two.0 j))
-none_held s (Image t e) at none = none_held s e (0 ∷ at) none
-none_held s (Parens e) at none = none_held s e (0 ∷ at) none
-none_held s (Unary op e) at none = none_held s e (0 ∷ at) none
-none_held s (Binary op a b) at none =
-    (let two = neither (has_call a) (has_call b) none in (λ j. none_held s b (1 ∷ at) two.1 j ++ none_held s a (0 ∷ at) two.0 j))
-none_held s (IsNull equal e) at none = none_held s e (0 ∷ at) none
-none_held s (Aggregate t parts) at none = none_held s parts (0 ∷ at) none
-none_held s (Alike t e) at none = none_held s e (0 ∷ at) none
-none_held s (New t v) at none = none_held s v (0 ∷ at) none
-none_held s (typed.More e rest) at none =
-    (let two = neither (has_call e) (has_call rest) none in (λ j. none_held s rest (1 ∷ at) two.1 j ++ none_held s e (0 ∷ at) two.0 j))
-none_held s _ at none = refl
+none_held s = on_tree {Of = λ e. (at : Place) → has_call e ≡ false → held s e at ≡ []} (record {
+  call = λ p sub actuals _ at none.
+      absurd (true≢false none);
+  short = λ op p a q b on_a by_b at none.
+      let two = neither (has_call a) (has_call b) none in
+      ap (λ z. if z then s.temporary at ∷ [] else held s b (1 ∷ at) ++ held s a (0 ∷ at)) two.1
+      ∙ (λ j. by_b (1 ∷ at) two.1 j ++ on_a (0 ∷ at) two.0 j);
+  name = λ p x steps t by_steps at none.
+      by_steps (0 ∷ at) none;
+  component = λ i rest on_rest at none.
+      on_rest (0 ∷ at) none;
+  designated = λ rest on_rest at none.
+      on_rest (0 ∷ at) none;
+  element = λ index low high rest by_index on_rest at none.
+      (let two = neither (has_call index) (has_call rest) none in (λ j. on_rest (1 ∷ at) two.1 j ++ by_index (0 ∷ at) two.0 j));
+  image = λ t e by_e at none.
+      by_e (0 ∷ at) none;
+  parens = λ e by_e at none.
+      by_e (0 ∷ at) none;
+  unary = λ op e by_e at none.
+      by_e (0 ∷ at) none;
+  binary = λ op a b on_a by_b at none.
+      (let two = neither (has_call a) (has_call b) none in (λ j. by_b (1 ∷ at) two.1 j ++ on_a (0 ∷ at) two.0 j));
+  is_null = λ equal e by_e at none.
+      by_e (0 ∷ at) none;
+  aggregate = λ t parts by_parts at none.
+      by_parts (0 ∷ at) none;
+  alike = λ t e by_e at none.
+      by_e (0 ∷ at) none;
+  allocator = λ t v by_v at none.
+      by_v (0 ∷ at) none;
+  list = λ e rest by_e on_rest at none.
+      (let two = neither (has_call e) (has_call rest) none in (λ j. on_rest (1 ∷ at) two.1 j ++ by_e (0 ∷ at) two.0 j));
+  others = λ e plain at none. rw (plain_held s e at plain) (refl);
+})
 
 second_none : (c : Bool) (ps qs : List NamedPoint) → c ≡ false → qs ≡ [] → (if c then ps else qs) ≡ []
 second_none true ps qs is none = absurd (true≢false is)
@@ -76,31 +89,44 @@ second_none false ps qs is none = none
 -- nor has it points of its own
 pub none_before : (s : Setting) (e : TypedTree) (at : Place) (scope : List ℕ) (k : List PointName) → has_call e ≡ false → prep s e at scope k ≡ []
 unfolding prep has_call
-none_before s (typed.Call p sub actuals) at scope k none = absurd (true≢false none)
-none_before s (Short op p a q b) at scope k none =
-    let two = neither (has_call a) (has_call b) none in
-    second_none (has_call b) _ _ two.1
-    (λ j. none_before s a (0 ∷ at) scope (entry (prep s b (1 ∷ at) (with_held s a (0 ∷ at) scope) k) k) two.0 j ++ none_before s b (1 ∷ at) (with_held s a (0 ∷ at) scope) k two.1 j)
-none_before s (Name p x e t) at scope k none = none_before s e (0 ∷ at) scope k none
-none_before s (Component i e) at scope k none = none_before s e (0 ∷ at) scope k none
-none_before s (Designated e) at scope k none = none_before s e (0 ∷ at) scope k none
-none_before s (Element a low high b) at scope k none =
-    (let two = neither (has_call a) (has_call b) none in
-    (λ j. none_before s a (0 ∷ at) scope (entry (prep s b (1 ∷ at) (with_held s a (0 ∷ at) scope) k) k) two.0 j ++ none_before s b (1 ∷ at) (with_held s a (0 ∷ at) scope) k two.1 j))
-none_before s (Image t e) at scope k none = none_before s e (0 ∷ at) scope k none
-none_before s (Parens e) at scope k none = none_before s e (0 ∷ at) scope k none
-none_before s (Unary op e) at scope k none = none_before s e (0 ∷ at) scope k none
-none_before s (Binary op a b) at scope k none =
-    (let two = neither (has_call a) (has_call b) none in
-    (λ j. none_before s a (0 ∷ at) scope (entry (prep s b (1 ∷ at) (with_held s a (0 ∷ at) scope) k) k) two.0 j ++ none_before s b (1 ∷ at) (with_held s a (0 ∷ at) scope) k two.1 j))
-none_before s (IsNull equal e) at scope k none = none_before s e (0 ∷ at) scope k none
-none_before s (Aggregate t e) at scope k none = none_before s e (0 ∷ at) scope k none
-none_before s (Alike t e) at scope k none = none_before s e (0 ∷ at) scope k none
-none_before s (New t e) at scope k none = none_before s e (0 ∷ at) scope k none
-none_before s (typed.More a b) at scope k none =
-    (let two = neither (has_call a) (has_call b) none in
-    (λ j. none_before s a (0 ∷ at) scope (entry (prep s b (1 ∷ at) (with_held s a (0 ∷ at) scope) k) k) two.0 j ++ none_before s b (1 ∷ at) (with_held s a (0 ∷ at) scope) k two.1 j))
-none_before s _ at scope k none = refl
+none_before s = on_tree {Of = λ e. (at : Place) → (scope : List ℕ) → (k : List PointName) → has_call e ≡ false → prep s e at scope k ≡ []} (record {
+  call = λ p sub actuals _ at scope k none.
+      absurd (true≢false none);
+  short = λ op p a q b on_a by_b at scope k none.
+      let two = neither (has_call a) (has_call b) none in
+      second_none (has_call b) _ _ two.1
+      (λ j. on_a (0 ∷ at) scope (entry (prep s b (1 ∷ at) (with_held s a (0 ∷ at) scope) k) k) two.0 j ++ by_b (1 ∷ at) (with_held s a (0 ∷ at) scope) k two.1 j);
+  name = λ p x e t by_e at scope k none.
+      by_e (0 ∷ at) scope k none;
+  component = λ i e by_e at scope k none.
+      by_e (0 ∷ at) scope k none;
+  designated = λ e by_e at scope k none.
+      by_e (0 ∷ at) scope k none;
+  element = λ a low high b on_a by_b at scope k none.
+      (let two = neither (has_call a) (has_call b) none in
+      (λ j. on_a (0 ∷ at) scope (entry (prep s b (1 ∷ at) (with_held s a (0 ∷ at) scope) k) k) two.0 j ++ by_b (1 ∷ at) (with_held s a (0 ∷ at) scope) k two.1 j));
+  image = λ t e by_e at scope k none.
+      by_e (0 ∷ at) scope k none;
+  parens = λ e by_e at scope k none.
+      by_e (0 ∷ at) scope k none;
+  unary = λ op e by_e at scope k none.
+      by_e (0 ∷ at) scope k none;
+  binary = λ op a b on_a by_b at scope k none.
+      (let two = neither (has_call a) (has_call b) none in
+      (λ j. on_a (0 ∷ at) scope (entry (prep s b (1 ∷ at) (with_held s a (0 ∷ at) scope) k) k) two.0 j ++ by_b (1 ∷ at) (with_held s a (0 ∷ at) scope) k two.1 j));
+  is_null = λ equal e by_e at scope k none.
+      by_e (0 ∷ at) scope k none;
+  aggregate = λ t e by_e at scope k none.
+      by_e (0 ∷ at) scope k none;
+  alike = λ t e by_e at scope k none.
+      by_e (0 ∷ at) scope k none;
+  allocator = λ t e by_e at scope k none.
+      by_e (0 ∷ at) scope k none;
+  list = λ a b on_a by_b at scope k none.
+      (let two = neither (has_call a) (has_call b) none in
+      (λ j. on_a (0 ∷ at) scope (entry (prep s b (1 ∷ at) (with_held s a (0 ∷ at) scope) k) k) two.0 j ++ by_b (1 ∷ at) (with_held s a (0 ∷ at) scope) k two.1 j));
+  others = λ e plain at scope k none. rw (plain_prep s e at scope k plain) (refl);
+})
 
 -- ---- what an instruction takes
 
@@ -158,32 +184,47 @@ module _ (s : Setting) where
 
   prep_others : (e : TypedTree) (at : Place) (scope : List ℕ) (k : List PointName) → AreOthers (prep s e at scope k)
   unfolding prep
-  prep_others (typed.Call p sub actuals) at scope k =
-      others_both (prep s actuals (0 ∷ at) scope (row_at at 0 ∷ [])) _ (prep_others actuals (0 ∷ at) scope (row_at at 0 ∷ []))
-      (others_one _ (no_take (instruction.Call sub actuals (Some (s.temporary at))) refl))
-  prep_others (Short op p a q b) at scope k =
-      let right : List NamedPoint = prep s b (1 ∷ at) (s.temporary at ∷ scope) (row_at at 1 ∷ []) in
-      others_if (has_call b) _ _
-      (others_both (prep s a (0 ∷ at) scope (row_at at 0 ∷ [])) _ (prep_others a (0 ∷ at) scope (row_at at 0 ∷ []))
-      (λ r has e by. elim has [
-        | inl same ↦ no_take (instruction.Evaluate (s.temporary at) a (Some op)) refl e (subst (λ (z : NamedPoint). Takes z.instr e) (sym same) by)
-        | inr more ↦ others_both right _ (prep_others b (1 ∷ at) (s.temporary at ∷ scope) (row_at at 1 ∷ [])) (others_one _ (no_take (instruction.Evaluate (s.temporary at) b None) refl)) r more e by
-      ]))
-      (others_both (prep s a (0 ∷ at) scope _) _ (prep_others a (0 ∷ at) scope _) (prep_others b (1 ∷ at) _ k))
-  prep_others (Binary op a b) at scope k = others_both (prep s a (0 ∷ at) scope _) _ (prep_others a (0 ∷ at) scope _) (prep_others b (1 ∷ at) _ k)
-  prep_others (typed.More a b) at scope k = others_both (prep s a (0 ∷ at) scope _) _ (prep_others a (0 ∷ at) scope _) (prep_others b (1 ∷ at) _ k)
-  prep_others (Element a low high b) at scope k = others_both (prep s a (0 ∷ at) scope _) _ (prep_others a (0 ∷ at) scope _) (prep_others b (1 ∷ at) _ k)
-  prep_others (Name p x e u) at scope k = prep_others e (0 ∷ at) scope k
-  prep_others (Component i e) at scope k = prep_others e (0 ∷ at) scope k
-  prep_others (Designated e) at scope k = prep_others e (0 ∷ at) scope k
-  prep_others (Image u e) at scope k = prep_others e (0 ∷ at) scope k
-  prep_others (Parens e) at scope k = prep_others e (0 ∷ at) scope k
-  prep_others (Unary op e) at scope k = prep_others e (0 ∷ at) scope k
-  prep_others (IsNull equal e) at scope k = prep_others e (0 ∷ at) scope k
-  prep_others (Aggregate t e) at scope k = prep_others e (0 ∷ at) scope k
-  prep_others (Alike t e) at scope k = prep_others e (0 ∷ at) scope k
-  prep_others (New t e) at scope k = prep_others e (0 ∷ at) scope k
-  prep_others _ at scope k = λ p has e by. absurd has
+  prep_others = on_tree {Of = λ e. (at : Place) → (scope : List ℕ) → (k : List PointName) → AreOthers (prep s e at scope k)} (record {
+    call = λ p sub actuals by_actuals at scope k.
+        others_both (prep s actuals (0 ∷ at) scope (row_at at 0 ∷ [])) _ (by_actuals (0 ∷ at) scope (row_at at 0 ∷ []))
+        (others_one _ (no_take (instruction.Call sub actuals (Some (s.temporary at))) refl));
+    short = λ op p a q b on_a by_b at scope k.
+        let right : List NamedPoint = prep s b (1 ∷ at) (s.temporary at ∷ scope) (row_at at 1 ∷ []) in
+        others_if (has_call b) _ _
+        (others_both (prep s a (0 ∷ at) scope (row_at at 0 ∷ [])) _ (on_a (0 ∷ at) scope (row_at at 0 ∷ []))
+        (λ r has e by. elim has [
+          | inl same ↦ no_take (instruction.Evaluate (s.temporary at) a (Some op)) refl e (subst (λ (z : NamedPoint). Takes z.instr e) (sym same) by)
+          | inr more ↦ others_both right _ (by_b (1 ∷ at) (s.temporary at ∷ scope) (row_at at 1 ∷ [])) (others_one _ (no_take (instruction.Evaluate (s.temporary at) b None) refl)) r more e by
+        ]))
+        (others_both (prep s a (0 ∷ at) scope _) _ (on_a (0 ∷ at) scope _) (by_b (1 ∷ at) _ k));
+    binary = λ op a b on_a by_b at scope k.
+        others_both (prep s a (0 ∷ at) scope _) _ (on_a (0 ∷ at) scope _) (by_b (1 ∷ at) _ k);
+    list = λ a b on_a by_b at scope k.
+        others_both (prep s a (0 ∷ at) scope _) _ (on_a (0 ∷ at) scope _) (by_b (1 ∷ at) _ k);
+    element = λ a low high b on_a by_b at scope k.
+        others_both (prep s a (0 ∷ at) scope _) _ (on_a (0 ∷ at) scope _) (by_b (1 ∷ at) _ k);
+    name = λ p x e u by_e at scope k.
+        by_e (0 ∷ at) scope k;
+    component = λ i e by_e at scope k.
+        by_e (0 ∷ at) scope k;
+    designated = λ e by_e at scope k.
+        by_e (0 ∷ at) scope k;
+    image = λ u e by_e at scope k.
+        by_e (0 ∷ at) scope k;
+    parens = λ e by_e at scope k.
+        by_e (0 ∷ at) scope k;
+    unary = λ op e by_e at scope k.
+        by_e (0 ∷ at) scope k;
+    is_null = λ equal e by_e at scope k.
+        by_e (0 ∷ at) scope k;
+    aggregate = λ t e by_e at scope k.
+        by_e (0 ∷ at) scope k;
+    alike = λ t e by_e at scope k.
+        by_e (0 ∷ at) scope k;
+    allocator = λ t e by_e at scope k.
+        by_e (0 ∷ at) scope k;
+    others = λ e plain at scope k. rw (plain_prep s e at scope k plain) (λ p has e by. absurd has);
+  })
 
   ends_others : (at : Place) (row : ℕ) (p : Pos) (xs scope : List ℕ) (k : List PointName) → AreOthers (ends at row p xs scope k)
   ends_others at row p [] scope k = λ q has e by. absurd has

@@ -16,7 +16,7 @@ use Rattle.machine.specs.flow_paths.Layout.{Around, within_loop, within_block, w
 use Rattle.machine.specs.flow_paths.Laid.{around_body, scope_at_end, procedure_end, function_end, body_points, sub_points, elaboration_points}
 use Rattle.machine.specs.flow_paths.Scopes.{is_within, taken}
 use Rattle.flow_paths.proofs.Held.{held_count}
-use Rattle.settled_types.proofs.TypedCases.{Laws, branch_none, branches_none, laid_none, on_code, when_none, whens_none}
+use Rattle.settled_types.proofs.TypedCases.{Laws, branch_none, branches_none, laid_none, on_code, on_tree, plain_prep, when_none, whens_none}
 use Rattle.settled_types.specs.OrderLaws.ScopeLaws.Code.{roots, are_seen, is_seen, is_each_seen, body_seen}
 use Rattle.settled_types.specs.OrderLaws.ScopeLaws.Order.{named_in}
 use Rattle.settled_types.specs.OrderLaws.ScopeLaws.Supplied.{IsLeft}
@@ -89,41 +89,53 @@ module _ (outer : ℕ → Bool) where
 
     prep_seen : (e : TypedTree) (at : Place) (scope : List ℕ) (k : List PointName) → are_seen outer scope (roots e) ≡ true → Seen (prep s e at scope k)
     unfolding prep roots
-    prep_seen (typed.Call p sub actuals) at scope k h =
-        one_more (prep s actuals (0 ∷ at) scope (row_at at 0 ∷ [])) _ (prep_seen actuals (0 ∷ at) scope (row_at at 0 ∷ []) h)
-        (held_left actuals (0 ∷ at) scope (roots actuals) (waiting actuals) refl h)
-    prep_seen (Short op p a q b) at scope k h =
-        let right : List NamedPoint = prep s b (1 ∷ at) (s.temporary at ∷ scope) (row_at at 1 ∷ []) in
-        let left_seen : are_seen outer scope (roots a) ≡ true = seen_left scope (roots a) (roots b) h in
-        let right_seen : are_seen outer scope (roots b) ≡ true = seen_right scope (roots a) (roots b) h in
-        let inner_seen : are_seen outer (s.temporary at ∷ scope) (roots b) ≡ true = seen_more (s.temporary at ∷ []) scope (roots b) right_seen in
-        all_if (IsLeft outer) (has_call b) _ _
-        (both (prep s a (0 ∷ at) scope (row_at at 0 ∷ [])) _ (prep_seen a (0 ∷ at) scope (row_at at 0 ∷ []) left_seen) (
-          held_left a (0 ∷ at) scope (roots a) (waiting a) refl left_seen,
-          one_more right _ (prep_seen b (1 ∷ at) (s.temporary at ∷ scope) (row_at at 1 ∷ []) inner_seen)
-              (held_left b (1 ∷ at) (s.temporary at ∷ scope) (roots b) (waiting b) refl inner_seen),
-        ))
-        (two_seen (0 ∷ at) (1 ∷ at) a b scope k (prep_seen a (0 ∷ at)) (prep_seen b (1 ∷ at)) left_seen right_seen)
-    prep_seen (Binary op a b) at scope k h =
-        two_seen (0 ∷ at) (1 ∷ at) a b scope k (prep_seen a (0 ∷ at)) (prep_seen b (1 ∷ at)) (seen_left scope (roots a) (roots b) h)
-        (seen_right scope (roots a) (roots b) h)
-    prep_seen (typed.More a b) at scope k h =
-        two_seen (0 ∷ at) (1 ∷ at) a b scope k (prep_seen a (0 ∷ at)) (prep_seen b (1 ∷ at)) (seen_left scope (roots a) (roots b) h)
-        (seen_right scope (roots a) (roots b) h)
-    prep_seen (Element a low high b) at scope k h =
-        two_seen (0 ∷ at) (1 ∷ at) a b scope k (prep_seen a (0 ∷ at)) (prep_seen b (1 ∷ at)) (seen_left scope (roots a) (roots b) h)
-        (seen_right scope (roots a) (roots b) h)
-    prep_seen (Name p x e t) at scope k h = prep_seen e (0 ∷ at) scope k (and_second (is_within x scope || outer x) (are_seen outer scope (roots e)) h)
-    prep_seen (Component i e) at scope k h = prep_seen e (0 ∷ at) scope k h
-    prep_seen (Designated e) at scope k h = prep_seen e (0 ∷ at) scope k h
-    prep_seen (Image t e) at scope k h = prep_seen e (0 ∷ at) scope k h
-    prep_seen (Parens e) at scope k h = prep_seen e (0 ∷ at) scope k h
-    prep_seen (Unary op e) at scope k h = prep_seen e (0 ∷ at) scope k h
-    prep_seen (IsNull equal e) at scope k h = prep_seen e (0 ∷ at) scope k h
-    prep_seen (Aggregate t e) at scope k h = prep_seen e (0 ∷ at) scope k h
-    prep_seen (Alike t e) at scope k h = prep_seen e (0 ∷ at) scope k h
-    prep_seen (New t e) at scope k h = prep_seen e (0 ∷ at) scope k h
-    prep_seen _ at scope k h = tt
+    prep_seen = on_tree {Of = λ e. (at : Place) → (scope : List ℕ) → (k : List PointName) → are_seen outer scope (roots e) ≡ true → Seen (prep s e at scope k)} (record {
+      call = λ p sub actuals by_actuals at scope k h.
+          one_more (prep s actuals (0 ∷ at) scope (row_at at 0 ∷ [])) _ (by_actuals (0 ∷ at) scope (row_at at 0 ∷ []) h)
+          (held_left actuals (0 ∷ at) scope (roots actuals) (waiting actuals) refl h);
+      short = λ op p a q b on_a by_b at scope k h.
+          let right : List NamedPoint = prep s b (1 ∷ at) (s.temporary at ∷ scope) (row_at at 1 ∷ []) in
+          let left_seen : are_seen outer scope (roots a) ≡ true = seen_left scope (roots a) (roots b) h in
+          let right_seen : are_seen outer scope (roots b) ≡ true = seen_right scope (roots a) (roots b) h in
+          let inner_seen : are_seen outer (s.temporary at ∷ scope) (roots b) ≡ true = seen_more (s.temporary at ∷ []) scope (roots b) right_seen in
+          all_if (IsLeft outer) (has_call b) _ _
+          (both (prep s a (0 ∷ at) scope (row_at at 0 ∷ [])) _ (on_a (0 ∷ at) scope (row_at at 0 ∷ []) left_seen) (
+            held_left a (0 ∷ at) scope (roots a) (waiting a) refl left_seen,
+            one_more right _ (by_b (1 ∷ at) (s.temporary at ∷ scope) (row_at at 1 ∷ []) inner_seen)
+                (held_left b (1 ∷ at) (s.temporary at ∷ scope) (roots b) (waiting b) refl inner_seen),
+          ))
+          (two_seen (0 ∷ at) (1 ∷ at) a b scope k (on_a (0 ∷ at)) (by_b (1 ∷ at)) left_seen right_seen);
+      binary = λ op a b on_a by_b at scope k h.
+          two_seen (0 ∷ at) (1 ∷ at) a b scope k (on_a (0 ∷ at)) (by_b (1 ∷ at)) (seen_left scope (roots a) (roots b) h)
+          (seen_right scope (roots a) (roots b) h);
+      list = λ a b on_a by_b at scope k h.
+          two_seen (0 ∷ at) (1 ∷ at) a b scope k (on_a (0 ∷ at)) (by_b (1 ∷ at)) (seen_left scope (roots a) (roots b) h)
+          (seen_right scope (roots a) (roots b) h);
+      element = λ a low high b on_a by_b at scope k h.
+          two_seen (0 ∷ at) (1 ∷ at) a b scope k (on_a (0 ∷ at)) (by_b (1 ∷ at)) (seen_left scope (roots a) (roots b) h)
+          (seen_right scope (roots a) (roots b) h);
+      name = λ p x e t by_e at scope k h.
+          by_e (0 ∷ at) scope k (and_second (is_within x scope || outer x) (are_seen outer scope (roots e)) h);
+      component = λ i e by_e at scope k h.
+          by_e (0 ∷ at) scope k h;
+      designated = λ e by_e at scope k h.
+          by_e (0 ∷ at) scope k h;
+      image = λ t e by_e at scope k h.
+          by_e (0 ∷ at) scope k h;
+      parens = λ e by_e at scope k h.
+          by_e (0 ∷ at) scope k h;
+      unary = λ op e by_e at scope k h.
+          by_e (0 ∷ at) scope k h;
+      is_null = λ equal e by_e at scope k h.
+          by_e (0 ∷ at) scope k h;
+      aggregate = λ t e by_e at scope k h.
+          by_e (0 ∷ at) scope k h;
+      alike = λ t e by_e at scope k h.
+          by_e (0 ∷ at) scope k h;
+      allocator = λ t e by_e at scope k h.
+          by_e (0 ∷ at) scope k h;
+      others = λ e plain at scope k h. rw (plain_prep s e at scope k plain) (tt);
+    })
 
     used : (at : Place) (p : Pos) (e : TypedTree) (i : Instruction) (scope : List ℕ) (next : List PointName) → named_in i ≡ roots e → taken i ≡ waiting e
         → are_seen outer scope (roots e) ≡ true

@@ -20,7 +20,7 @@ use Rattle.machine.specs.flow_paths.Laid.{around_body, scope_at_end, procedure_e
 use Rattle.machine.specs.flow_paths.Scopes.{is_ready, is_last, leaves_silently, is_declaration, is_undeclaring, is_settled}
 use Rattle.flow_paths.proofs.Unwinding.{Unwinds, Loose, unwinds_silent}
 use Rattle.flow_paths.proofs.StatementScopes.{after, after_undeclaring, after_more, ended}
-use Rattle.settled_types.proofs.TypedCases.{Laws, branch_none, branches_none, laid_none, on_code, when_none, whens_none}
+use Rattle.settled_types.proofs.TypedCases.{Laws, branch_none, branches_none, laid_none, on_code, on_tree, plain_prep, when_none, whens_none}
 use Rattle.settled_types.specs.OrderLaws.ScopeLaws.Code.{Once, objects_of}
 use Rattle.settled_types.specs.OrderLaws.ScopeLaws.Order.{IsOrdered}
 use Rattle.settled_types.proofs.OrderLaws.ScopeLaws.Lists.{and_first, and_second, all_both, all_one, all_if, outside, has_reverse, once_left, once_right, once_apart}
@@ -238,39 +238,51 @@ module _ (s : Setting) (is : ℕ → Type 0) (apart : (x : ℕ) → is x → IsT
 
   prep_ordered : (formals : List ℕ) (e : TypedTree) (at : Place) (scope : List ℕ) (k : List PointName) → Ordered formals (prep s e at scope k)
   unfolding prep
-  prep_ordered formals (typed.Call p sub actuals) at scope k =
-      one_more formals (prep s actuals (0 ∷ at) scope (row_at at 0 ∷ [])) _ (prep_ordered formals actuals (0 ∷ at) scope (row_at at 0 ∷ [])) (quiet formals _ refl)
-  prep_ordered formals (Short op p a q b) at scope k =
-      let right : List NamedPoint = prep s b (1 ∷ at) (s.temporary at ∷ scope) (row_at at 1 ∷ []) in
-      let behind : List NamedPoint = prep s b (1 ∷ at) (with_held s a (0 ∷ at) scope) k in
-      all_if (IsOrdered is formals) (has_call b) _ _
-      (both formals (prep s a (0 ∷ at) scope (row_at at 0 ∷ [])) _ (prep_ordered formals a (0 ∷ at) scope (row_at at 0 ∷ []))
-      (quiet formals _ refl, one_more formals right _ (prep_ordered formals b (1 ∷ at) (s.temporary at ∷ scope) (row_at at 1 ∷ [])) (quiet formals _ refl)))
-      (both formals (prep s a (0 ∷ at) scope (entry behind k)) behind (prep_ordered formals a (0 ∷ at) scope (entry behind k))
-      (prep_ordered formals b (1 ∷ at) (with_held s a (0 ∷ at) scope) k))
-  prep_ordered formals (Binary op a b) at scope k =
-      let behind : List NamedPoint = prep s b (1 ∷ at) (with_held s a (0 ∷ at) scope) k in
-      both formals (prep s a (0 ∷ at) scope (entry behind k)) behind (prep_ordered formals a (0 ∷ at) scope (entry behind k))
-      (prep_ordered formals b (1 ∷ at) (with_held s a (0 ∷ at) scope) k)
-  prep_ordered formals (typed.More a b) at scope k =
-      let behind : List NamedPoint = prep s b (1 ∷ at) (with_held s a (0 ∷ at) scope) k in
-      both formals (prep s a (0 ∷ at) scope (entry behind k)) behind (prep_ordered formals a (0 ∷ at) scope (entry behind k))
-      (prep_ordered formals b (1 ∷ at) (with_held s a (0 ∷ at) scope) k)
-  prep_ordered formals (Element a low high b) at scope k =
-      let behind : List NamedPoint = prep s b (1 ∷ at) (with_held s a (0 ∷ at) scope) k in
-      both formals (prep s a (0 ∷ at) scope (entry behind k)) behind (prep_ordered formals a (0 ∷ at) scope (entry behind k))
-      (prep_ordered formals b (1 ∷ at) (with_held s a (0 ∷ at) scope) k)
-  prep_ordered formals (Name p x e t) at scope k = prep_ordered formals e (0 ∷ at) scope k
-  prep_ordered formals (Component i e) at scope k = prep_ordered formals e (0 ∷ at) scope k
-  prep_ordered formals (Designated e) at scope k = prep_ordered formals e (0 ∷ at) scope k
-  prep_ordered formals (Image t e) at scope k = prep_ordered formals e (0 ∷ at) scope k
-  prep_ordered formals (Parens e) at scope k = prep_ordered formals e (0 ∷ at) scope k
-  prep_ordered formals (Unary op e) at scope k = prep_ordered formals e (0 ∷ at) scope k
-  prep_ordered formals (IsNull equal e) at scope k = prep_ordered formals e (0 ∷ at) scope k
-  prep_ordered formals (Aggregate t e) at scope k = prep_ordered formals e (0 ∷ at) scope k
-  prep_ordered formals (Alike t e) at scope k = prep_ordered formals e (0 ∷ at) scope k
-  prep_ordered formals (New t e) at scope k = prep_ordered formals e (0 ∷ at) scope k
-  prep_ordered formals _ at scope k = tt
+  prep_ordered formals = on_tree {Of = λ e. (at : Place) → (scope : List ℕ) → (k : List PointName) → Ordered formals (prep s e at scope k)} (record {
+    call = λ p sub actuals by_actuals at scope k.
+        one_more formals (prep s actuals (0 ∷ at) scope (row_at at 0 ∷ [])) _ (by_actuals (0 ∷ at) scope (row_at at 0 ∷ [])) (quiet formals _ refl);
+    short = λ op p a q b on_a by_b at scope k.
+        let right : List NamedPoint = prep s b (1 ∷ at) (s.temporary at ∷ scope) (row_at at 1 ∷ []) in
+        let behind : List NamedPoint = prep s b (1 ∷ at) (with_held s a (0 ∷ at) scope) k in
+        all_if (IsOrdered is formals) (has_call b) _ _
+        (both formals (prep s a (0 ∷ at) scope (row_at at 0 ∷ [])) _ (on_a (0 ∷ at) scope (row_at at 0 ∷ []))
+        (quiet formals _ refl, one_more formals right _ (by_b (1 ∷ at) (s.temporary at ∷ scope) (row_at at 1 ∷ [])) (quiet formals _ refl)))
+        (both formals (prep s a (0 ∷ at) scope (entry behind k)) behind (on_a (0 ∷ at) scope (entry behind k))
+        (by_b (1 ∷ at) (with_held s a (0 ∷ at) scope) k));
+    binary = λ op a b on_a by_b at scope k.
+        let behind : List NamedPoint = prep s b (1 ∷ at) (with_held s a (0 ∷ at) scope) k in
+        both formals (prep s a (0 ∷ at) scope (entry behind k)) behind (on_a (0 ∷ at) scope (entry behind k))
+        (by_b (1 ∷ at) (with_held s a (0 ∷ at) scope) k);
+    list = λ a b on_a by_b at scope k.
+        let behind : List NamedPoint = prep s b (1 ∷ at) (with_held s a (0 ∷ at) scope) k in
+        both formals (prep s a (0 ∷ at) scope (entry behind k)) behind (on_a (0 ∷ at) scope (entry behind k))
+        (by_b (1 ∷ at) (with_held s a (0 ∷ at) scope) k);
+    element = λ a low high b on_a by_b at scope k.
+        let behind : List NamedPoint = prep s b (1 ∷ at) (with_held s a (0 ∷ at) scope) k in
+        both formals (prep s a (0 ∷ at) scope (entry behind k)) behind (on_a (0 ∷ at) scope (entry behind k))
+        (by_b (1 ∷ at) (with_held s a (0 ∷ at) scope) k);
+    name = λ p x e t by_e at scope k.
+        by_e (0 ∷ at) scope k;
+    component = λ i e by_e at scope k.
+        by_e (0 ∷ at) scope k;
+    designated = λ e by_e at scope k.
+        by_e (0 ∷ at) scope k;
+    image = λ t e by_e at scope k.
+        by_e (0 ∷ at) scope k;
+    parens = λ e by_e at scope k.
+        by_e (0 ∷ at) scope k;
+    unary = λ op e by_e at scope k.
+        by_e (0 ∷ at) scope k;
+    is_null = λ equal e by_e at scope k.
+        by_e (0 ∷ at) scope k;
+    aggregate = λ t e by_e at scope k.
+        by_e (0 ∷ at) scope k;
+    alike = λ t e by_e at scope k.
+        by_e (0 ∷ at) scope k;
+    allocator = λ t e by_e at scope k.
+        by_e (0 ∷ at) scope k;
+    others = λ e plain at scope k. rw (plain_prep s e at scope k plain) (tt);
+  })
 
   -- what is ordered by itself, after its Prep
   used : (formals : List ℕ) (at : Place) (e : TypedTree) (scope : List ℕ) (q : NamedPoint) → IsOrdered is formals q

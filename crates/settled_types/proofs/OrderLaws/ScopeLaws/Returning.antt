@@ -15,7 +15,7 @@ use Rattle.machine.specs.flow_paths.Points.{Place, PointName, row_at, NamedPoint
 use Rattle.machine.specs.flow_paths.Prep.{Setting, with_held, prep}
 use Rattle.machine.specs.flow_paths.Layout.{Around, within_loop, within_block, with_scope, declared, from, ending, ends, closing, uses, unless_empty, choices_of, laid, laid_branches, laid_branch, laid_whens, laid_when}
 use Rattle.machine.specs.flow_paths.Laid.{around_body, function_end, procedure_end, body_points, sub_points}
-use Rattle.settled_types.proofs.TypedCases.{Laws, branch_none, branches_none, laid_none, on_code, when_none, whens_none}
+use Rattle.settled_types.proofs.TypedCases.{Laws, branch_none, branches_none, laid_none, on_code, on_tree, plain_prep, when_none, whens_none}
 use Rattle.settled_types.specs.OrderLaws.ScopeLaws.Returning.{is_return, is_finish, IsReturned, IsOpen, All, Stands, StartsAtZero, returns, closes, goes}
 use Rattle.settled_types.proofs.OrderLaws.ScopeLaws.Lists.{all_both}
 
@@ -45,24 +45,40 @@ zero_either false ps qs h g = g
 module _ (s : Setting) where
   prep_zero : (e : TypedTree) (at : Place) (scope : List ℕ) (k : List PointName) → Zero (prep s e at scope k)
   unfolding prep
-  prep_zero (typed.Call p sub actuals) at scope k = zero_both (prep s actuals (0 ∷ at) scope (row_at at 0 ∷ [])) _ (prep_zero actuals (0 ∷ at) scope (row_at at 0 ∷ [])) refl
-  prep_zero (Short op p a q b) at scope k =
-      zero_either (has_call b) _ _ (zero_both (prep s a (0 ∷ at) scope (row_at at 0 ∷ [])) _ (prep_zero a (0 ∷ at) scope (row_at at 0 ∷ [])) refl)
-      (zero_both (prep s a (0 ∷ at) scope _) _ (prep_zero a (0 ∷ at) scope _) (prep_zero b (1 ∷ at) (with_held s a (0 ∷ at) scope) k))
-  prep_zero (Binary op a b) at scope k = zero_both (prep s a (0 ∷ at) scope _) _ (prep_zero a (0 ∷ at) scope _) (prep_zero b (1 ∷ at) (with_held s a (0 ∷ at) scope) k)
-  prep_zero (typed.More a b) at scope k = zero_both (prep s a (0 ∷ at) scope _) _ (prep_zero a (0 ∷ at) scope _) (prep_zero b (1 ∷ at) (with_held s a (0 ∷ at) scope) k)
-  prep_zero (Element a low high b) at scope k = zero_both (prep s a (0 ∷ at) scope _) _ (prep_zero a (0 ∷ at) scope _) (prep_zero b (1 ∷ at) (with_held s a (0 ∷ at) scope) k)
-  prep_zero (Name p x e t) at scope k = prep_zero e (0 ∷ at) scope k
-  prep_zero (Component i e) at scope k = prep_zero e (0 ∷ at) scope k
-  prep_zero (Designated e) at scope k = prep_zero e (0 ∷ at) scope k
-  prep_zero (Image t e) at scope k = prep_zero e (0 ∷ at) scope k
-  prep_zero (Parens e) at scope k = prep_zero e (0 ∷ at) scope k
-  prep_zero (Unary op e) at scope k = prep_zero e (0 ∷ at) scope k
-  prep_zero (IsNull equal e) at scope k = prep_zero e (0 ∷ at) scope k
-  prep_zero (Aggregate t e) at scope k = prep_zero e (0 ∷ at) scope k
-  prep_zero (Alike t e) at scope k = prep_zero e (0 ∷ at) scope k
-  prep_zero (New t e) at scope k = prep_zero e (0 ∷ at) scope k
-  prep_zero _ at scope k = tt
+  prep_zero = on_tree {Of = λ e. (at : Place) → (scope : List ℕ) → (k : List PointName) → Zero (prep s e at scope k)} (record {
+    call = λ p sub actuals by_actuals at scope k.
+        zero_both (prep s actuals (0 ∷ at) scope (row_at at 0 ∷ [])) _ (by_actuals (0 ∷ at) scope (row_at at 0 ∷ [])) refl;
+    short = λ op p a q b on_a by_b at scope k.
+        zero_either (has_call b) _ _ (zero_both (prep s a (0 ∷ at) scope (row_at at 0 ∷ [])) _ (on_a (0 ∷ at) scope (row_at at 0 ∷ [])) refl)
+        (zero_both (prep s a (0 ∷ at) scope _) _ (on_a (0 ∷ at) scope _) (by_b (1 ∷ at) (with_held s a (0 ∷ at) scope) k));
+    binary = λ op a b on_a by_b at scope k.
+        zero_both (prep s a (0 ∷ at) scope _) _ (on_a (0 ∷ at) scope _) (by_b (1 ∷ at) (with_held s a (0 ∷ at) scope) k);
+    list = λ a b on_a by_b at scope k.
+        zero_both (prep s a (0 ∷ at) scope _) _ (on_a (0 ∷ at) scope _) (by_b (1 ∷ at) (with_held s a (0 ∷ at) scope) k);
+    element = λ a low high b on_a by_b at scope k.
+        zero_both (prep s a (0 ∷ at) scope _) _ (on_a (0 ∷ at) scope _) (by_b (1 ∷ at) (with_held s a (0 ∷ at) scope) k);
+    name = λ p x e t by_e at scope k.
+        by_e (0 ∷ at) scope k;
+    component = λ i e by_e at scope k.
+        by_e (0 ∷ at) scope k;
+    designated = λ e by_e at scope k.
+        by_e (0 ∷ at) scope k;
+    image = λ t e by_e at scope k.
+        by_e (0 ∷ at) scope k;
+    parens = λ e by_e at scope k.
+        by_e (0 ∷ at) scope k;
+    unary = λ op e by_e at scope k.
+        by_e (0 ∷ at) scope k;
+    is_null = λ equal e by_e at scope k.
+        by_e (0 ∷ at) scope k;
+    aggregate = λ t e by_e at scope k.
+        by_e (0 ∷ at) scope k;
+    alike = λ t e by_e at scope k.
+        by_e (0 ∷ at) scope k;
+    allocator = λ t e by_e at scope k.
+        by_e (0 ∷ at) scope k;
+    others = λ e plain at scope k. rw (plain_prep s e at scope k plain) (tt);
+  })
 
   uses_zero : (at : Place) (p : Pos) (e : TypedTree) (i : Instruction) (w : Around) (next : List PointName) → Zero (uses s at p e i w next)
   uses_zero at p e i w next = zero_both (prep s e (0 ∷ at) w.scope (row_at at 0 ∷ [])) _ (prep_zero e (0 ∷ at) w.scope (row_at at 0 ∷ [])) refl
@@ -176,47 +192,59 @@ module _ (W : List NamedPoint) where
 
     prep_stands : (e : TypedTree) (at : Place) (scope : List ℕ) (k : List PointName) → In (prep s e at scope k) → All (IsOpen W) k → Standing (prep s e at scope k)
     unfolding prep
-    prep_stands (typed.Call p sub actuals) at scope k within free =
-        both (prep s actuals (0 ∷ at) scope (row_at at 0 ∷ [])) _
-        (prep_stands actuals (0 ∷ at) scope (row_at at 0 ∷ []) (in_left (prep s actuals (0 ∷ at) scope (row_at at 0 ∷ [])) _ within) (one_name (IsOpen W) (row_at at 0) (inl refl)))
-        (goes refl refl (inl refl) free, tt)
-    prep_stands (Short op p a q b) at scope k within free =
-        either (has_call b) _ _
-        (λ inside.
-        let before : List NamedPoint = prep s a (0 ∷ at) scope (row_at at 0 ∷ []) in
-        let middle : List NamedPoint = prep s b (1 ∷ at) (s.temporary at ∷ scope) (row_at at 1 ∷ []) in
-        let m : NamedPoint = point (row_at at 0) p (Evaluate (s.temporary at) a (Some op)) (with_held s a (0 ∷ at) scope) (entry middle (row_at at 1 ∷ []) ++ k) in
-        let n : NamedPoint = point (row_at at 1) q (Evaluate (s.temporary at) b None) (with_held s b (1 ∷ at) (s.temporary at ∷ scope)) k in
-        let second : IsOpen W (row_at at 1) = inr (m, in_middle before m (middle ++ n ∷ []) inside, refl, refl) in
-        both before (m ∷ (middle ++ n ∷ []))
-        (prep_stands a (0 ∷ at) scope (row_at at 0 ∷ []) (in_left before (m ∷ (middle ++ n ∷ [])) inside) (one_name (IsOpen W) (row_at at 0) (inl refl))) (
-          goes refl refl (inl refl)
-              (all_names (IsOpen W) (entry middle (row_at at 1 ∷ [])) k
-              (entry_open middle (row_at at 1 ∷ []) (prep_zero s b (1 ∷ at) (s.temporary at ∷ scope) (row_at at 1 ∷ [])) (one_name (IsOpen W) (row_at at 1) second)) free),
-          both middle (n ∷ [])
-              (prep_stands b (1 ∷ at) (s.temporary at ∷ scope) (row_at at 1 ∷ []) (λ r has. in_right before (m ∷ (middle ++ n ∷ [])) inside r (inr (Has-append_left middle (n ∷ []) r has)))
-              (one_name (IsOpen W) (row_at at 1) second))
-              (goes refl refl second free, tt),
-        ))
-        (λ inside. pair_stands a b (0 ∷ at) (1 ∷ at) scope (with_held s a (0 ∷ at) scope) k inside free (prep_stands a (0 ∷ at) scope) (prep_stands b (1 ∷ at) (with_held s a (0 ∷ at) scope)))
-        within
-    prep_stands (Binary op a b) at scope k within free =
-        pair_stands a b (0 ∷ at) (1 ∷ at) scope (with_held s a (0 ∷ at) scope) k within free (prep_stands a (0 ∷ at) scope) (prep_stands b (1 ∷ at) (with_held s a (0 ∷ at) scope))
-    prep_stands (typed.More a b) at scope k within free =
-        pair_stands a b (0 ∷ at) (1 ∷ at) scope (with_held s a (0 ∷ at) scope) k within free (prep_stands a (0 ∷ at) scope) (prep_stands b (1 ∷ at) (with_held s a (0 ∷ at) scope))
-    prep_stands (Element a low high b) at scope k within free =
-        pair_stands a b (0 ∷ at) (1 ∷ at) scope (with_held s a (0 ∷ at) scope) k within free (prep_stands a (0 ∷ at) scope) (prep_stands b (1 ∷ at) (with_held s a (0 ∷ at) scope))
-    prep_stands (Name p x e t) at scope k within free = prep_stands e (0 ∷ at) scope k within free
-    prep_stands (Component i e) at scope k within free = prep_stands e (0 ∷ at) scope k within free
-    prep_stands (Designated e) at scope k within free = prep_stands e (0 ∷ at) scope k within free
-    prep_stands (Image t e) at scope k within free = prep_stands e (0 ∷ at) scope k within free
-    prep_stands (Parens e) at scope k within free = prep_stands e (0 ∷ at) scope k within free
-    prep_stands (Unary op e) at scope k within free = prep_stands e (0 ∷ at) scope k within free
-    prep_stands (IsNull equal e) at scope k within free = prep_stands e (0 ∷ at) scope k within free
-    prep_stands (Aggregate t e) at scope k within free = prep_stands e (0 ∷ at) scope k within free
-    prep_stands (Alike t e) at scope k within free = prep_stands e (0 ∷ at) scope k within free
-    prep_stands (New t e) at scope k within free = prep_stands e (0 ∷ at) scope k within free
-    prep_stands _ at scope k within free = tt
+    prep_stands = on_tree {Of = λ e. (at : Place) → (scope : List ℕ) → (k : List PointName) → In (prep s e at scope k) → All (IsOpen W) k → Standing (prep s e at scope k)} (record {
+      call = λ p sub actuals by_actuals at scope k within free.
+          both (prep s actuals (0 ∷ at) scope (row_at at 0 ∷ [])) _
+          (by_actuals (0 ∷ at) scope (row_at at 0 ∷ []) (in_left (prep s actuals (0 ∷ at) scope (row_at at 0 ∷ [])) _ within) (one_name (IsOpen W) (row_at at 0) (inl refl)))
+          (goes refl refl (inl refl) free, tt);
+      short = λ op p a q b on_a by_b at scope k within free.
+          either (has_call b) _ _
+          (λ inside.
+          let before : List NamedPoint = prep s a (0 ∷ at) scope (row_at at 0 ∷ []) in
+          let middle : List NamedPoint = prep s b (1 ∷ at) (s.temporary at ∷ scope) (row_at at 1 ∷ []) in
+          let m : NamedPoint = point (row_at at 0) p (Evaluate (s.temporary at) a (Some op)) (with_held s a (0 ∷ at) scope) (entry middle (row_at at 1 ∷ []) ++ k) in
+          let n : NamedPoint = point (row_at at 1) q (Evaluate (s.temporary at) b None) (with_held s b (1 ∷ at) (s.temporary at ∷ scope)) k in
+          let second : IsOpen W (row_at at 1) = inr (m, in_middle before m (middle ++ n ∷ []) inside, refl, refl) in
+          both before (m ∷ (middle ++ n ∷ []))
+          (on_a (0 ∷ at) scope (row_at at 0 ∷ []) (in_left before (m ∷ (middle ++ n ∷ [])) inside) (one_name (IsOpen W) (row_at at 0) (inl refl))) (
+            goes refl refl (inl refl)
+                (all_names (IsOpen W) (entry middle (row_at at 1 ∷ [])) k
+                (entry_open middle (row_at at 1 ∷ []) (prep_zero s b (1 ∷ at) (s.temporary at ∷ scope) (row_at at 1 ∷ [])) (one_name (IsOpen W) (row_at at 1) second)) free),
+            both middle (n ∷ [])
+                (by_b (1 ∷ at) (s.temporary at ∷ scope) (row_at at 1 ∷ []) (λ r has. in_right before (m ∷ (middle ++ n ∷ [])) inside r (inr (Has-append_left middle (n ∷ []) r has)))
+                (one_name (IsOpen W) (row_at at 1) second))
+                (goes refl refl second free, tt),
+          ))
+          (λ inside. pair_stands a b (0 ∷ at) (1 ∷ at) scope (with_held s a (0 ∷ at) scope) k inside free (on_a (0 ∷ at) scope) (by_b (1 ∷ at) (with_held s a (0 ∷ at) scope)))
+          within;
+      binary = λ op a b on_a by_b at scope k within free.
+          pair_stands a b (0 ∷ at) (1 ∷ at) scope (with_held s a (0 ∷ at) scope) k within free (on_a (0 ∷ at) scope) (by_b (1 ∷ at) (with_held s a (0 ∷ at) scope));
+      list = λ a b on_a by_b at scope k within free.
+          pair_stands a b (0 ∷ at) (1 ∷ at) scope (with_held s a (0 ∷ at) scope) k within free (on_a (0 ∷ at) scope) (by_b (1 ∷ at) (with_held s a (0 ∷ at) scope));
+      element = λ a low high b on_a by_b at scope k within free.
+          pair_stands a b (0 ∷ at) (1 ∷ at) scope (with_held s a (0 ∷ at) scope) k within free (on_a (0 ∷ at) scope) (by_b (1 ∷ at) (with_held s a (0 ∷ at) scope));
+      name = λ p x e t by_e at scope k within free.
+          by_e (0 ∷ at) scope k within free;
+      component = λ i e by_e at scope k within free.
+          by_e (0 ∷ at) scope k within free;
+      designated = λ e by_e at scope k within free.
+          by_e (0 ∷ at) scope k within free;
+      image = λ t e by_e at scope k within free.
+          by_e (0 ∷ at) scope k within free;
+      parens = λ e by_e at scope k within free.
+          by_e (0 ∷ at) scope k within free;
+      unary = λ op e by_e at scope k within free.
+          by_e (0 ∷ at) scope k within free;
+      is_null = λ equal e by_e at scope k within free.
+          by_e (0 ∷ at) scope k within free;
+      aggregate = λ t e by_e at scope k within free.
+          by_e (0 ∷ at) scope k within free;
+      alike = λ t e by_e at scope k within free.
+          by_e (0 ∷ at) scope k within free;
+      allocator = λ t e by_e at scope k within free.
+          by_e (0 ∷ at) scope k within free;
+      others = λ e plain at scope k within free. rw (plain_prep s e at scope k plain) (tt);
+    })
 
     uses_stands : (at : Place) (p : Pos) (e : TypedTree) (i : Instruction) (w : Around) (next : List PointName) → is_return i ≡ false → is_finish i ≡ false → All (IsOpen W) next
         → In (uses s at p e i w next) → Standing (uses s at p e i w next)

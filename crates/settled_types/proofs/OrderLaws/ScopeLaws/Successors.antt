@@ -16,6 +16,7 @@ use Rattle.machine.specs.flow_paths.Layout.{Around, within_loop, within_block, w
 use Rattle.machine.specs.flow_paths.Laid.{around_body, scope_at_end, procedure_end, function_end, body_points, sub_points}
 use Rattle.flow_paths.proofs.Entries.{entry_append}
 use Rattle.machine.specs.Typed.{successors}
+use Rattle.settled_types.proofs.TypedCases.{on_tree, plain_prep}
 use Rattle.settled_types.specs.OrderLaws.ScopeLaws.Code.{is_formed, are_alternatives, is_formed_alternative}
 use Rattle.settled_types.specs.OrderLaws.ScopeLaws.Order.{IsCounted}
 use Rattle.settled_types.proofs.OrderLaws.ScopeLaws.Lists.{and_first, and_second, all_both, all_one, all_if}
@@ -45,41 +46,53 @@ one_more ps p h g = all_one IsCounted ps p h g
 
 pub prep_counted : (s : Setting) (e : TypedTree) (at : Place) (scope : List ℕ) (k : List PointName) → One k → Counted (prep s e at scope k)
 unfolding prep
-prep_counted s (typed.Call p sub actuals) at scope k one =
-    one_more (prep s actuals (0 ∷ at) scope (row_at at 0 ∷ [])) _ (prep_counted s actuals (0 ∷ at) scope (row_at at 0 ∷ []) refl) one
-prep_counted s (Short op p a q b) at scope k one =
-    let right : List NamedPoint = prep s b (1 ∷ at) (s.temporary at ∷ scope) (row_at at 1 ∷ []) in
-    let behind : List NamedPoint = prep s b (1 ∷ at) (with_held s a (0 ∷ at) scope) k in
-    all_if IsCounted (has_call b) _ _
-    (both (prep s a (0 ∷ at) scope (row_at at 0 ∷ [])) _ (prep_counted s a (0 ∷ at) scope (row_at at 0 ∷ []) refl) (
-      two (entry right (row_at at 1 ∷ [])) k (entry_one right (row_at at 1 ∷ []) refl) one,
-      one_more right _ (prep_counted s b (1 ∷ at) (s.temporary at ∷ scope) (row_at at 1 ∷ []) refl) one,
-    ))
-    (both (prep s a (0 ∷ at) scope (entry behind k)) behind (prep_counted s a (0 ∷ at) scope (entry behind k) (entry_one behind k one))
-    (prep_counted s b (1 ∷ at) (with_held s a (0 ∷ at) scope) k one))
-prep_counted s (Binary op a b) at scope k one =
-    let behind : List NamedPoint = prep s b (1 ∷ at) (with_held s a (0 ∷ at) scope) k in
-    both (prep s a (0 ∷ at) scope (entry behind k)) behind (prep_counted s a (0 ∷ at) scope (entry behind k) (entry_one behind k one))
-    (prep_counted s b (1 ∷ at) (with_held s a (0 ∷ at) scope) k one)
-prep_counted s (typed.More a b) at scope k one =
-    let behind : List NamedPoint = prep s b (1 ∷ at) (with_held s a (0 ∷ at) scope) k in
-    both (prep s a (0 ∷ at) scope (entry behind k)) behind (prep_counted s a (0 ∷ at) scope (entry behind k) (entry_one behind k one))
-    (prep_counted s b (1 ∷ at) (with_held s a (0 ∷ at) scope) k one)
-prep_counted s (Element a low high b) at scope k one =
-    let behind : List NamedPoint = prep s b (1 ∷ at) (with_held s a (0 ∷ at) scope) k in
-    both (prep s a (0 ∷ at) scope (entry behind k)) behind (prep_counted s a (0 ∷ at) scope (entry behind k) (entry_one behind k one))
-    (prep_counted s b (1 ∷ at) (with_held s a (0 ∷ at) scope) k one)
-prep_counted s (Name p x e t) at scope k one = prep_counted s e (0 ∷ at) scope k one
-prep_counted s (Component i e) at scope k one = prep_counted s e (0 ∷ at) scope k one
-prep_counted s (Designated e) at scope k one = prep_counted s e (0 ∷ at) scope k one
-prep_counted s (Image t e) at scope k one = prep_counted s e (0 ∷ at) scope k one
-prep_counted s (Parens e) at scope k one = prep_counted s e (0 ∷ at) scope k one
-prep_counted s (Unary op e) at scope k one = prep_counted s e (0 ∷ at) scope k one
-prep_counted s (IsNull equal e) at scope k one = prep_counted s e (0 ∷ at) scope k one
-prep_counted s (Aggregate t e) at scope k one = prep_counted s e (0 ∷ at) scope k one
-prep_counted s (Alike t e) at scope k one = prep_counted s e (0 ∷ at) scope k one
-prep_counted s (New t e) at scope k one = prep_counted s e (0 ∷ at) scope k one
-prep_counted s _ at scope k one = tt
+prep_counted s = on_tree {Of = λ e. (at : Place) → (scope : List ℕ) → (k : List PointName) → One k → Counted (prep s e at scope k)} (record {
+  call = λ p sub actuals by_actuals at scope k one.
+      one_more (prep s actuals (0 ∷ at) scope (row_at at 0 ∷ [])) _ (by_actuals (0 ∷ at) scope (row_at at 0 ∷ []) refl) one;
+  short = λ op p a q b by_a by_b at scope k one.
+      let right : List NamedPoint = prep s b (1 ∷ at) (s.temporary at ∷ scope) (row_at at 1 ∷ []) in
+      let behind : List NamedPoint = prep s b (1 ∷ at) (with_held s a (0 ∷ at) scope) k in
+      all_if IsCounted (has_call b) _ _
+      (both (prep s a (0 ∷ at) scope (row_at at 0 ∷ [])) _ (by_a (0 ∷ at) scope (row_at at 0 ∷ []) refl) (
+        two (entry right (row_at at 1 ∷ [])) k (entry_one right (row_at at 1 ∷ []) refl) one,
+        one_more right _ (by_b (1 ∷ at) (s.temporary at ∷ scope) (row_at at 1 ∷ []) refl) one,
+      ))
+      (both (prep s a (0 ∷ at) scope (entry behind k)) behind (by_a (0 ∷ at) scope (entry behind k) (entry_one behind k one))
+      (by_b (1 ∷ at) (with_held s a (0 ∷ at) scope) k one));
+  binary = λ op a b by_a by_b at scope k one.
+      let behind : List NamedPoint = prep s b (1 ∷ at) (with_held s a (0 ∷ at) scope) k in
+      both (prep s a (0 ∷ at) scope (entry behind k)) behind (by_a (0 ∷ at) scope (entry behind k) (entry_one behind k one))
+      (by_b (1 ∷ at) (with_held s a (0 ∷ at) scope) k one);
+  list = λ a b by_a by_b at scope k one.
+      let behind : List NamedPoint = prep s b (1 ∷ at) (with_held s a (0 ∷ at) scope) k in
+      both (prep s a (0 ∷ at) scope (entry behind k)) behind (by_a (0 ∷ at) scope (entry behind k) (entry_one behind k one))
+      (by_b (1 ∷ at) (with_held s a (0 ∷ at) scope) k one);
+  element = λ a low high b by_a by_b at scope k one.
+      let behind : List NamedPoint = prep s b (1 ∷ at) (with_held s a (0 ∷ at) scope) k in
+      both (prep s a (0 ∷ at) scope (entry behind k)) behind (by_a (0 ∷ at) scope (entry behind k) (entry_one behind k one))
+      (by_b (1 ∷ at) (with_held s a (0 ∷ at) scope) k one);
+  name = λ p x e t by_e at scope k one.
+      by_e (0 ∷ at) scope k one;
+  component = λ i e by_e at scope k one.
+      by_e (0 ∷ at) scope k one;
+  designated = λ e by_e at scope k one.
+      by_e (0 ∷ at) scope k one;
+  image = λ t e by_e at scope k one.
+      by_e (0 ∷ at) scope k one;
+  parens = λ e by_e at scope k one.
+      by_e (0 ∷ at) scope k one;
+  unary = λ op e by_e at scope k one.
+      by_e (0 ∷ at) scope k one;
+  is_null = λ equal e by_e at scope k one.
+      by_e (0 ∷ at) scope k one;
+  aggregate = λ t e by_e at scope k one.
+      by_e (0 ∷ at) scope k one;
+  alike = λ t e by_e at scope k one.
+      by_e (0 ∷ at) scope k one;
+  allocator = λ t e by_e at scope k one.
+      by_e (0 ∷ at) scope k one;
+  others = λ e plain at scope k one. rw (plain_prep s e at scope k plain) (tt);
+})
 
 uses_counted : (s : Setting) (at : Place) (p : Pos) (e : TypedTree) (i : Instruction) (w : Around) (next : List PointName)
     → length next ≡ successors i → Counted (uses s at p e i w next)

@@ -18,7 +18,7 @@ use Rattle.machine.specs.flow_paths.Layout.{Around, within_loop, within_block, w
 use Rattle.machine.specs.flow_paths.Laid.{around_body, scope_at_end, procedure_end, function_end, body_points, sub_points, elaboration_points, declared_within}
 use Rattle.machine.specs.flow_paths.Scopes.{taken}
 use Rattle.flow_paths.proofs.Held.{held_count}
-use Rattle.settled_types.proofs.TypedCases.{Laws, branch_none, branches_none, laid_none, on_code, when_none, whens_none}
+use Rattle.settled_types.proofs.TypedCases.{Laws, branch_none, branches_none, laid_none, on_code, on_tree, plain_held, plain_prep, when_none, whens_none}
 use Rattle.settled_types.specs.OrderLaws.ScopeLaws.Code.{objects_of}
 use Rattle.settled_types.specs.OrderLaws.ScopeLaws.Supplied.{temporaries_in, Fills, IsSupplied, IsFilling, AreNone, StartsWithNone}
 use Rattle.settled_types.proofs.OrderLaws.ScopeLaws.Lists.{all_both, all_one, has_reverse}
@@ -117,38 +117,50 @@ module _ (test : ℕ → Bool) where
     -- What an expression waits for is held by temporaries.
     held_all : (e : TypedTree) (at : Place) (scope : List ℕ) (k : List PointName) → Filling (prep s e at scope k) → AreAll (held s e at)
     unfolding prep held
-    held_all (typed.Call p sub actuals) at scope k fill =
-        (last (prep s actuals (0 ∷ at) scope (row_at at 0 ∷ [])) _ [] fill, tt)
-    held_all (Short op p a q b) at scope k fill =
-        let behind : List NamedPoint = prep s b (1 ∷ at) (with_held s a (0 ∷ at) scope) k in
-        either_all (has_call b) _ (prep s a (0 ∷ at) scope (entry behind k) ++ behind) (s.temporary at ∷ []) (held s b (1 ∷ at) ++ held s a (0 ∷ at))
-        (λ f. (last (prep s a (0 ∷ at) scope (row_at at 0 ∷ [])) _ _ f, tt))
-        (λ f. all_held (held s a (0 ∷ at)) (held s b (1 ∷ at)) (held_all a (0 ∷ at) scope (entry behind k) (left (prep s a (0 ∷ at) scope (entry behind k)) behind f))
-        (held_all b (1 ∷ at) (with_held s a (0 ∷ at) scope) k (right (prep s a (0 ∷ at) scope (entry behind k)) behind f)))
-        fill
-    held_all (Binary op a b) at scope k fill =
-        let behind : List NamedPoint = prep s b (1 ∷ at) (with_held s a (0 ∷ at) scope) k in
-        all_held (held s a (0 ∷ at)) (held s b (1 ∷ at)) (held_all a (0 ∷ at) scope (entry behind k) (left (prep s a (0 ∷ at) scope (entry behind k)) behind fill))
-        (held_all b (1 ∷ at) (with_held s a (0 ∷ at) scope) k (right (prep s a (0 ∷ at) scope (entry behind k)) behind fill))
-    held_all (typed.More a b) at scope k fill =
-        let behind : List NamedPoint = prep s b (1 ∷ at) (with_held s a (0 ∷ at) scope) k in
-        all_held (held s a (0 ∷ at)) (held s b (1 ∷ at)) (held_all a (0 ∷ at) scope (entry behind k) (left (prep s a (0 ∷ at) scope (entry behind k)) behind fill))
-        (held_all b (1 ∷ at) (with_held s a (0 ∷ at) scope) k (right (prep s a (0 ∷ at) scope (entry behind k)) behind fill))
-    held_all (Element a low high b) at scope k fill =
-        let behind : List NamedPoint = prep s b (1 ∷ at) (with_held s a (0 ∷ at) scope) k in
-        all_held (held s a (0 ∷ at)) (held s b (1 ∷ at)) (held_all a (0 ∷ at) scope (entry behind k) (left (prep s a (0 ∷ at) scope (entry behind k)) behind fill))
-        (held_all b (1 ∷ at) (with_held s a (0 ∷ at) scope) k (right (prep s a (0 ∷ at) scope (entry behind k)) behind fill))
-    held_all (Name p x e t) at scope k fill = held_all e (0 ∷ at) scope k fill
-    held_all (Component i e) at scope k fill = held_all e (0 ∷ at) scope k fill
-    held_all (Designated e) at scope k fill = held_all e (0 ∷ at) scope k fill
-    held_all (Image t e) at scope k fill = held_all e (0 ∷ at) scope k fill
-    held_all (Parens e) at scope k fill = held_all e (0 ∷ at) scope k fill
-    held_all (Unary op e) at scope k fill = held_all e (0 ∷ at) scope k fill
-    held_all (IsNull equal e) at scope k fill = held_all e (0 ∷ at) scope k fill
-    held_all (Aggregate t e) at scope k fill = held_all e (0 ∷ at) scope k fill
-    held_all (Alike t e) at scope k fill = held_all e (0 ∷ at) scope k fill
-    held_all (New t e) at scope k fill = held_all e (0 ∷ at) scope k fill
-    held_all _ at scope k fill = tt
+    held_all = on_tree {Of = λ e. (at : Place) → (scope : List ℕ) → (k : List PointName) → Filling (prep s e at scope k) → AreAll (held s e at)} (record {
+      call = λ p sub actuals _ at scope k fill.
+          (last (prep s actuals (0 ∷ at) scope (row_at at 0 ∷ [])) _ [] fill, tt);
+      short = λ op p a q b on_a by_b at scope k fill.
+          let behind : List NamedPoint = prep s b (1 ∷ at) (with_held s a (0 ∷ at) scope) k in
+          either_all (has_call b) _ (prep s a (0 ∷ at) scope (entry behind k) ++ behind) (s.temporary at ∷ []) (held s b (1 ∷ at) ++ held s a (0 ∷ at))
+          (λ f. (last (prep s a (0 ∷ at) scope (row_at at 0 ∷ [])) _ _ f, tt))
+          (λ f. all_held (held s a (0 ∷ at)) (held s b (1 ∷ at)) (on_a (0 ∷ at) scope (entry behind k) (left (prep s a (0 ∷ at) scope (entry behind k)) behind f))
+          (by_b (1 ∷ at) (with_held s a (0 ∷ at) scope) k (right (prep s a (0 ∷ at) scope (entry behind k)) behind f)))
+          fill;
+      binary = λ op a b on_a by_b at scope k fill.
+          let behind : List NamedPoint = prep s b (1 ∷ at) (with_held s a (0 ∷ at) scope) k in
+          all_held (held s a (0 ∷ at)) (held s b (1 ∷ at)) (on_a (0 ∷ at) scope (entry behind k) (left (prep s a (0 ∷ at) scope (entry behind k)) behind fill))
+          (by_b (1 ∷ at) (with_held s a (0 ∷ at) scope) k (right (prep s a (0 ∷ at) scope (entry behind k)) behind fill));
+      list = λ a b on_a by_b at scope k fill.
+          let behind : List NamedPoint = prep s b (1 ∷ at) (with_held s a (0 ∷ at) scope) k in
+          all_held (held s a (0 ∷ at)) (held s b (1 ∷ at)) (on_a (0 ∷ at) scope (entry behind k) (left (prep s a (0 ∷ at) scope (entry behind k)) behind fill))
+          (by_b (1 ∷ at) (with_held s a (0 ∷ at) scope) k (right (prep s a (0 ∷ at) scope (entry behind k)) behind fill));
+      element = λ a low high b on_a by_b at scope k fill.
+          let behind : List NamedPoint = prep s b (1 ∷ at) (with_held s a (0 ∷ at) scope) k in
+          all_held (held s a (0 ∷ at)) (held s b (1 ∷ at)) (on_a (0 ∷ at) scope (entry behind k) (left (prep s a (0 ∷ at) scope (entry behind k)) behind fill))
+          (by_b (1 ∷ at) (with_held s a (0 ∷ at) scope) k (right (prep s a (0 ∷ at) scope (entry behind k)) behind fill));
+      name = λ p x e t by_e at scope k fill.
+          by_e (0 ∷ at) scope k fill;
+      component = λ i e by_e at scope k fill.
+          by_e (0 ∷ at) scope k fill;
+      designated = λ e by_e at scope k fill.
+          by_e (0 ∷ at) scope k fill;
+      image = λ t e by_e at scope k fill.
+          by_e (0 ∷ at) scope k fill;
+      parens = λ e by_e at scope k fill.
+          by_e (0 ∷ at) scope k fill;
+      unary = λ op e by_e at scope k fill.
+          by_e (0 ∷ at) scope k fill;
+      is_null = λ equal e by_e at scope k fill.
+          by_e (0 ∷ at) scope k fill;
+      aggregate = λ t e by_e at scope k fill.
+          by_e (0 ∷ at) scope k fill;
+      alike = λ t e by_e at scope k fill.
+          by_e (0 ∷ at) scope k fill;
+      allocator = λ t e by_e at scope k fill.
+          by_e (0 ∷ at) scope k fill;
+      others = λ e plain at scope k fill. rw (plain_held s e at plain) (tt);
+    })
 
     pair_supplied : (a b : TypedTree) (x y : Place) (scope inner : List ℕ) (k l : List PointName) → (Filling (prep s a x scope k) → Supplied (prep s a x scope k))
         → (Filling (prep s b y inner l) → Supplied (prep s b y inner l)) → Filling (prep s a x scope k ++ prep s b y inner l) → Supplied (prep s a x scope k ++ prep s b y inner l)
@@ -161,49 +173,61 @@ module _ (test : ℕ → Bool) where
 
     prep_supplied : (e : TypedTree) (at : Place) (scope : List ℕ) (k : List PointName) → Filling (prep s e at scope k) → Supplied (prep s e at scope k)
     unfolding prep
-    prep_supplied (typed.Call p sub actuals) at scope k fill =
-        let before : List NamedPoint = prep s actuals (0 ∷ at) scope (row_at at 0 ∷ []) in
-        let q : NamedPoint = point (row_at at 0) p (instruction.Call sub actuals (Some (s.temporary at))) (with_held s actuals (0 ∷ at) scope) k in
-        let inner : Filling before = left before (q ∷ []) fill in
-        one_more before q (prep_supplied actuals (0 ∷ at) scope (row_at at 0 ∷ []) inner)
-        (supplied q (held s actuals (0 ∷ at)) scope (held_all actuals (0 ∷ at) scope (row_at at 0 ∷ []) inner) (held_count s actuals (0 ∷ at)) refl (last before q [] fill))
-    prep_supplied (Short op p a q b) at scope k fill =
-        let behind : List NamedPoint = prep s b (1 ∷ at) (with_held s a (0 ∷ at) scope) k in
-        either_supplied (has_call b) _ (prep s a (0 ∷ at) scope (entry behind k) ++ behind)
-        (λ f.
-        let before : List NamedPoint = prep s a (0 ∷ at) scope (row_at at 0 ∷ []) in
-        let middle : List NamedPoint = prep s b (1 ∷ at) (s.temporary at ∷ scope) (row_at at 1 ∷ []) in
-        let m : NamedPoint = point (row_at at 0) p (Evaluate (s.temporary at) a (Some op)) (with_held s a (0 ∷ at) scope) (entry middle (row_at at 1 ∷ []) ++ k) in
-        let n : NamedPoint = point (row_at at 1) q (Evaluate (s.temporary at) b None) (with_held s b (1 ∷ at) (s.temporary at ∷ scope)) k in
-        let first : Filling before = left before (m ∷ (middle ++ n ∷ [])) f in
-        let full : IsFilling test m = last before m (middle ++ n ∷ []) f in
-        let second : Filling middle = left middle (n ∷ []) (right before (m ∷ (middle ++ n ∷ [])) f).1 in
-        both before (m ∷ (middle ++ n ∷ [])) (prep_supplied a (0 ∷ at) scope (row_at at 0 ∷ []) first) (
-          supplied m (held s a (0 ∷ at)) scope (held_all a (0 ∷ at) scope (row_at at 0 ∷ []) first) (held_count s a (0 ∷ at)) refl full,
-          one_more middle n (prep_supplied b (1 ∷ at) (s.temporary at ∷ scope) (row_at at 1 ∷ []) second)
-              (supplied n (held s b (1 ∷ at)) (s.temporary at ∷ scope) (held_all b (1 ∷ at) (s.temporary at ∷ scope) (row_at at 1 ∷ []) second) (held_count s b (1 ∷ at)) refl
-              (s.temporary at, scope, refl, full)),
-        ))
-        (pair_supplied a b (0 ∷ at) (1 ∷ at) scope (with_held s a (0 ∷ at) scope) (entry behind k) k (prep_supplied a (0 ∷ at) scope (entry behind k))
-        (prep_supplied b (1 ∷ at) (with_held s a (0 ∷ at) scope) k))
-        fill
-    prep_supplied (Binary op a b) at scope k fill =
-        pair_supplied a b (0 ∷ at) (1 ∷ at) scope (with_held s a (0 ∷ at) scope) _ k (prep_supplied a (0 ∷ at) scope _) (prep_supplied b (1 ∷ at) (with_held s a (0 ∷ at) scope) k) fill
-    prep_supplied (typed.More a b) at scope k fill =
-        pair_supplied a b (0 ∷ at) (1 ∷ at) scope (with_held s a (0 ∷ at) scope) _ k (prep_supplied a (0 ∷ at) scope _) (prep_supplied b (1 ∷ at) (with_held s a (0 ∷ at) scope) k) fill
-    prep_supplied (Element a low high b) at scope k fill =
-        pair_supplied a b (0 ∷ at) (1 ∷ at) scope (with_held s a (0 ∷ at) scope) _ k (prep_supplied a (0 ∷ at) scope _) (prep_supplied b (1 ∷ at) (with_held s a (0 ∷ at) scope) k) fill
-    prep_supplied (Name p x e t) at scope k fill = prep_supplied e (0 ∷ at) scope k fill
-    prep_supplied (Component i e) at scope k fill = prep_supplied e (0 ∷ at) scope k fill
-    prep_supplied (Designated e) at scope k fill = prep_supplied e (0 ∷ at) scope k fill
-    prep_supplied (Image t e) at scope k fill = prep_supplied e (0 ∷ at) scope k fill
-    prep_supplied (Parens e) at scope k fill = prep_supplied e (0 ∷ at) scope k fill
-    prep_supplied (Unary op e) at scope k fill = prep_supplied e (0 ∷ at) scope k fill
-    prep_supplied (IsNull equal e) at scope k fill = prep_supplied e (0 ∷ at) scope k fill
-    prep_supplied (Aggregate t e) at scope k fill = prep_supplied e (0 ∷ at) scope k fill
-    prep_supplied (Alike t e) at scope k fill = prep_supplied e (0 ∷ at) scope k fill
-    prep_supplied (New t e) at scope k fill = prep_supplied e (0 ∷ at) scope k fill
-    prep_supplied _ at scope k fill = tt
+    prep_supplied = on_tree {Of = λ e. (at : Place) → (scope : List ℕ) → (k : List PointName) → Filling (prep s e at scope k) → Supplied (prep s e at scope k)} (record {
+      call = λ p sub actuals by_actuals at scope k fill.
+          let before : List NamedPoint = prep s actuals (0 ∷ at) scope (row_at at 0 ∷ []) in
+          let q : NamedPoint = point (row_at at 0) p (instruction.Call sub actuals (Some (s.temporary at))) (with_held s actuals (0 ∷ at) scope) k in
+          let inner : Filling before = left before (q ∷ []) fill in
+          one_more before q (by_actuals (0 ∷ at) scope (row_at at 0 ∷ []) inner)
+          (supplied q (held s actuals (0 ∷ at)) scope (held_all actuals (0 ∷ at) scope (row_at at 0 ∷ []) inner) (held_count s actuals (0 ∷ at)) refl (last before q [] fill));
+      short = λ op p a q b on_a by_b at scope k fill.
+          let behind : List NamedPoint = prep s b (1 ∷ at) (with_held s a (0 ∷ at) scope) k in
+          either_supplied (has_call b) _ (prep s a (0 ∷ at) scope (entry behind k) ++ behind)
+          (λ f.
+          let before : List NamedPoint = prep s a (0 ∷ at) scope (row_at at 0 ∷ []) in
+          let middle : List NamedPoint = prep s b (1 ∷ at) (s.temporary at ∷ scope) (row_at at 1 ∷ []) in
+          let m : NamedPoint = point (row_at at 0) p (Evaluate (s.temporary at) a (Some op)) (with_held s a (0 ∷ at) scope) (entry middle (row_at at 1 ∷ []) ++ k) in
+          let n : NamedPoint = point (row_at at 1) q (Evaluate (s.temporary at) b None) (with_held s b (1 ∷ at) (s.temporary at ∷ scope)) k in
+          let first : Filling before = left before (m ∷ (middle ++ n ∷ [])) f in
+          let full : IsFilling test m = last before m (middle ++ n ∷ []) f in
+          let second : Filling middle = left middle (n ∷ []) (right before (m ∷ (middle ++ n ∷ [])) f).1 in
+          both before (m ∷ (middle ++ n ∷ [])) (on_a (0 ∷ at) scope (row_at at 0 ∷ []) first) (
+            supplied m (held s a (0 ∷ at)) scope (held_all a (0 ∷ at) scope (row_at at 0 ∷ []) first) (held_count s a (0 ∷ at)) refl full,
+            one_more middle n (by_b (1 ∷ at) (s.temporary at ∷ scope) (row_at at 1 ∷ []) second)
+                (supplied n (held s b (1 ∷ at)) (s.temporary at ∷ scope) (held_all b (1 ∷ at) (s.temporary at ∷ scope) (row_at at 1 ∷ []) second) (held_count s b (1 ∷ at)) refl
+                (s.temporary at, scope, refl, full)),
+          ))
+          (pair_supplied a b (0 ∷ at) (1 ∷ at) scope (with_held s a (0 ∷ at) scope) (entry behind k) k (on_a (0 ∷ at) scope (entry behind k))
+          (by_b (1 ∷ at) (with_held s a (0 ∷ at) scope) k))
+          fill;
+      binary = λ op a b on_a by_b at scope k fill.
+          pair_supplied a b (0 ∷ at) (1 ∷ at) scope (with_held s a (0 ∷ at) scope) _ k (on_a (0 ∷ at) scope _) (by_b (1 ∷ at) (with_held s a (0 ∷ at) scope) k) fill;
+      list = λ a b on_a by_b at scope k fill.
+          pair_supplied a b (0 ∷ at) (1 ∷ at) scope (with_held s a (0 ∷ at) scope) _ k (on_a (0 ∷ at) scope _) (by_b (1 ∷ at) (with_held s a (0 ∷ at) scope) k) fill;
+      element = λ a low high b on_a by_b at scope k fill.
+          pair_supplied a b (0 ∷ at) (1 ∷ at) scope (with_held s a (0 ∷ at) scope) _ k (on_a (0 ∷ at) scope _) (by_b (1 ∷ at) (with_held s a (0 ∷ at) scope) k) fill;
+      name = λ p x e t by_e at scope k fill.
+          by_e (0 ∷ at) scope k fill;
+      component = λ i e by_e at scope k fill.
+          by_e (0 ∷ at) scope k fill;
+      designated = λ e by_e at scope k fill.
+          by_e (0 ∷ at) scope k fill;
+      image = λ t e by_e at scope k fill.
+          by_e (0 ∷ at) scope k fill;
+      parens = λ e by_e at scope k fill.
+          by_e (0 ∷ at) scope k fill;
+      unary = λ op e by_e at scope k fill.
+          by_e (0 ∷ at) scope k fill;
+      is_null = λ equal e by_e at scope k fill.
+          by_e (0 ∷ at) scope k fill;
+      aggregate = λ t e by_e at scope k fill.
+          by_e (0 ∷ at) scope k fill;
+      alike = λ t e by_e at scope k fill.
+          by_e (0 ∷ at) scope k fill;
+      allocator = λ t e by_e at scope k fill.
+          by_e (0 ∷ at) scope k fill;
+      others = λ e plain at scope k fill. rw (plain_prep s e at scope k plain) (tt);
+    })
 
     uses_supplied : (at : Place) (p : Pos) (e : TypedTree) (i : Instruction) (w : Around) (next : List PointName) → taken i ≡ waiting e → Fills test i w.scope
         → Filling (uses s at p e i w next) → Supplied (uses s at p e i w next)
@@ -399,37 +423,50 @@ module _ (test : ℕ → Bool) where
     -- Where no point comes before a use, nothing waits for it.
     held_none : (e : TypedTree) (at : Place) (scope : List ℕ) (k : List PointName) → prep s e at scope k ≡ [] → held s e at ≡ []
     unfolding prep held
-    held_none (typed.Call p sub actuals) at scope k e = absurd (no_row (prep s actuals (0 ∷ at) scope (row_at at 0 ∷ [])) _ [] e)
-    held_none (Short op p a q b) at scope k e =
-        let behind : List NamedPoint = prep s b (1 ∷ at) (with_held s a (0 ∷ at) scope) k in
-        either_held (has_call b) _ (prep s a (0 ∷ at) scope (entry behind k) ++ behind) (s.temporary at ∷ []) (held s b (1 ∷ at) ++ held s a (0 ∷ at))
-        (λ f. absurd (no_row (prep s a (0 ∷ at) scope (row_at at 0 ∷ [])) _ _ f))
-        (λ f. none_held (held s a (0 ∷ at)) (held s b (1 ∷ at)) (held_none a (0 ∷ at) scope (entry behind k) (left_empty (prep s a (0 ∷ at) scope (entry behind k)) behind f))
-        (held_none b (1 ∷ at) (with_held s a (0 ∷ at) scope) k (right_empty (prep s a (0 ∷ at) scope (entry behind k)) behind f)))
-        e
-    held_none (Binary op a b) at scope k e =
-        let behind : List NamedPoint = prep s b (1 ∷ at) (with_held s a (0 ∷ at) scope) k in
-        none_held (held s a (0 ∷ at)) (held s b (1 ∷ at)) (held_none a (0 ∷ at) scope (entry behind k) (left_empty (prep s a (0 ∷ at) scope (entry behind k)) behind e))
-        (held_none b (1 ∷ at) (with_held s a (0 ∷ at) scope) k (right_empty (prep s a (0 ∷ at) scope (entry behind k)) behind e))
-    held_none (typed.More a b) at scope k e =
-        let behind : List NamedPoint = prep s b (1 ∷ at) (with_held s a (0 ∷ at) scope) k in
-        none_held (held s a (0 ∷ at)) (held s b (1 ∷ at)) (held_none a (0 ∷ at) scope (entry behind k) (left_empty (prep s a (0 ∷ at) scope (entry behind k)) behind e))
-        (held_none b (1 ∷ at) (with_held s a (0 ∷ at) scope) k (right_empty (prep s a (0 ∷ at) scope (entry behind k)) behind e))
-    held_none (Element a low high b) at scope k e =
-        let behind : List NamedPoint = prep s b (1 ∷ at) (with_held s a (0 ∷ at) scope) k in
-        none_held (held s a (0 ∷ at)) (held s b (1 ∷ at)) (held_none a (0 ∷ at) scope (entry behind k) (left_empty (prep s a (0 ∷ at) scope (entry behind k)) behind e))
-        (held_none b (1 ∷ at) (with_held s a (0 ∷ at) scope) k (right_empty (prep s a (0 ∷ at) scope (entry behind k)) behind e))
-    held_none (Name p x e t) at scope k none = held_none e (0 ∷ at) scope k none
-    held_none (Component i e) at scope k none = held_none e (0 ∷ at) scope k none
-    held_none (Designated e) at scope k none = held_none e (0 ∷ at) scope k none
-    held_none (Image t e) at scope k none = held_none e (0 ∷ at) scope k none
-    held_none (Parens e) at scope k none = held_none e (0 ∷ at) scope k none
-    held_none (Unary op e) at scope k none = held_none e (0 ∷ at) scope k none
-    held_none (IsNull equal e) at scope k none = held_none e (0 ∷ at) scope k none
-    held_none (Aggregate t e) at scope k none = held_none e (0 ∷ at) scope k none
-    held_none (Alike t e) at scope k none = held_none e (0 ∷ at) scope k none
-    held_none (New t e) at scope k none = held_none e (0 ∷ at) scope k none
-    held_none _ at scope k none = refl
+    held_none = on_tree {Of = λ e. (at : Place) → (scope : List ℕ) → (k : List PointName) → prep s e at scope k ≡ [] → held s e at ≡ []} (record {
+      call = λ p sub actuals _ at scope k e.
+          absurd (no_row (prep s actuals (0 ∷ at) scope (row_at at 0 ∷ [])) _ [] e);
+      short = λ op p a q b on_a by_b at scope k e.
+          let behind : List NamedPoint = prep s b (1 ∷ at) (with_held s a (0 ∷ at) scope) k in
+          either_held (has_call b) _ (prep s a (0 ∷ at) scope (entry behind k) ++ behind) (s.temporary at ∷ []) (held s b (1 ∷ at) ++ held s a (0 ∷ at))
+          (λ f. absurd (no_row (prep s a (0 ∷ at) scope (row_at at 0 ∷ [])) _ _ f))
+          (λ f. none_held (held s a (0 ∷ at)) (held s b (1 ∷ at)) (on_a (0 ∷ at) scope (entry behind k) (left_empty (prep s a (0 ∷ at) scope (entry behind k)) behind f))
+          (by_b (1 ∷ at) (with_held s a (0 ∷ at) scope) k (right_empty (prep s a (0 ∷ at) scope (entry behind k)) behind f)))
+          e;
+      binary = λ op a b on_a by_b at scope k e.
+          let behind : List NamedPoint = prep s b (1 ∷ at) (with_held s a (0 ∷ at) scope) k in
+          none_held (held s a (0 ∷ at)) (held s b (1 ∷ at)) (on_a (0 ∷ at) scope (entry behind k) (left_empty (prep s a (0 ∷ at) scope (entry behind k)) behind e))
+          (by_b (1 ∷ at) (with_held s a (0 ∷ at) scope) k (right_empty (prep s a (0 ∷ at) scope (entry behind k)) behind e));
+      list = λ a b on_a by_b at scope k e.
+          let behind : List NamedPoint = prep s b (1 ∷ at) (with_held s a (0 ∷ at) scope) k in
+          none_held (held s a (0 ∷ at)) (held s b (1 ∷ at)) (on_a (0 ∷ at) scope (entry behind k) (left_empty (prep s a (0 ∷ at) scope (entry behind k)) behind e))
+          (by_b (1 ∷ at) (with_held s a (0 ∷ at) scope) k (right_empty (prep s a (0 ∷ at) scope (entry behind k)) behind e));
+      element = λ a low high b on_a by_b at scope k e.
+          let behind : List NamedPoint = prep s b (1 ∷ at) (with_held s a (0 ∷ at) scope) k in
+          none_held (held s a (0 ∷ at)) (held s b (1 ∷ at)) (on_a (0 ∷ at) scope (entry behind k) (left_empty (prep s a (0 ∷ at) scope (entry behind k)) behind e))
+          (by_b (1 ∷ at) (with_held s a (0 ∷ at) scope) k (right_empty (prep s a (0 ∷ at) scope (entry behind k)) behind e));
+      name = λ p x e t by_e at scope k none.
+          by_e (0 ∷ at) scope k none;
+      component = λ i e by_e at scope k none.
+          by_e (0 ∷ at) scope k none;
+      designated = λ e by_e at scope k none.
+          by_e (0 ∷ at) scope k none;
+      image = λ t e by_e at scope k none.
+          by_e (0 ∷ at) scope k none;
+      parens = λ e by_e at scope k none.
+          by_e (0 ∷ at) scope k none;
+      unary = λ op e by_e at scope k none.
+          by_e (0 ∷ at) scope k none;
+      is_null = λ equal e by_e at scope k none.
+          by_e (0 ∷ at) scope k none;
+      aggregate = λ t e by_e at scope k none.
+          by_e (0 ∷ at) scope k none;
+      alike = λ t e by_e at scope k none.
+          by_e (0 ∷ at) scope k none;
+      allocator = λ t e by_e at scope k none.
+          by_e (0 ∷ at) scope k none;
+      others = λ e plain at scope k none. rw (plain_held s e at plain) (refl);
+    })
 
     -- So what stands before those of the second part is as before those of the first one.
     scope_same : (e : TypedTree) (at : Place) (scope : List ℕ) (k : List PointName) → AreNone test scope → prep s e at scope k ≡ [] → AreNone test (with_held s e at scope)
@@ -441,39 +478,51 @@ module _ (test : ℕ → Bool) where
 
     prep_starts : (e : TypedTree) (at : Place) (scope : List ℕ) (k : List PointName) → AreNone test scope → Starts (prep s e at scope k)
     unfolding prep
-    prep_starts (typed.Call p sub actuals) at scope k none =
-        starts_both (prep s actuals (0 ∷ at) scope (row_at at 0 ∷ [])) _ (prep_starts actuals (0 ∷ at) scope (row_at at 0 ∷ []) none)
-        (λ e. count_none (with_held s actuals (0 ∷ at) scope) (scope_same actuals (0 ∷ at) scope (row_at at 0 ∷ []) none e))
-    prep_starts (Short op p a q b) at scope k none =
-        let behind : List NamedPoint = prep s b (1 ∷ at) (with_held s a (0 ∷ at) scope) k in
-        starts_either (has_call b) _ (prep s a (0 ∷ at) scope (entry behind k) ++ behind)
-        (starts_both (prep s a (0 ∷ at) scope (row_at at 0 ∷ [])) _ (prep_starts a (0 ∷ at) scope (row_at at 0 ∷ []) none)
-        (λ e. count_none (with_held s a (0 ∷ at) scope) (scope_same a (0 ∷ at) scope (row_at at 0 ∷ []) none e)))
-        (starts_both (prep s a (0 ∷ at) scope (entry behind k)) behind (prep_starts a (0 ∷ at) scope (entry behind k) none)
-        (λ e. prep_starts b (1 ∷ at) (with_held s a (0 ∷ at) scope) k (scope_same a (0 ∷ at) scope (entry behind k) none e)))
-    prep_starts (Binary op a b) at scope k none =
-        let behind : List NamedPoint = prep s b (1 ∷ at) (with_held s a (0 ∷ at) scope) k in
-        starts_both (prep s a (0 ∷ at) scope (entry behind k)) behind (prep_starts a (0 ∷ at) scope (entry behind k) none)
-        (λ e. prep_starts b (1 ∷ at) (with_held s a (0 ∷ at) scope) k (scope_same a (0 ∷ at) scope (entry behind k) none e))
-    prep_starts (typed.More a b) at scope k none =
-        let behind : List NamedPoint = prep s b (1 ∷ at) (with_held s a (0 ∷ at) scope) k in
-        starts_both (prep s a (0 ∷ at) scope (entry behind k)) behind (prep_starts a (0 ∷ at) scope (entry behind k) none)
-        (λ e. prep_starts b (1 ∷ at) (with_held s a (0 ∷ at) scope) k (scope_same a (0 ∷ at) scope (entry behind k) none e))
-    prep_starts (Element a low high b) at scope k none =
-        let behind : List NamedPoint = prep s b (1 ∷ at) (with_held s a (0 ∷ at) scope) k in
-        starts_both (prep s a (0 ∷ at) scope (entry behind k)) behind (prep_starts a (0 ∷ at) scope (entry behind k) none)
-        (λ e. prep_starts b (1 ∷ at) (with_held s a (0 ∷ at) scope) k (scope_same a (0 ∷ at) scope (entry behind k) none e))
-    prep_starts (Name p x e t) at scope k none = prep_starts e (0 ∷ at) scope k none
-    prep_starts (Component i e) at scope k none = prep_starts e (0 ∷ at) scope k none
-    prep_starts (Designated e) at scope k none = prep_starts e (0 ∷ at) scope k none
-    prep_starts (Image t e) at scope k none = prep_starts e (0 ∷ at) scope k none
-    prep_starts (Parens e) at scope k none = prep_starts e (0 ∷ at) scope k none
-    prep_starts (Unary op e) at scope k none = prep_starts e (0 ∷ at) scope k none
-    prep_starts (IsNull equal e) at scope k none = prep_starts e (0 ∷ at) scope k none
-    prep_starts (Aggregate t e) at scope k none = prep_starts e (0 ∷ at) scope k none
-    prep_starts (Alike t e) at scope k none = prep_starts e (0 ∷ at) scope k none
-    prep_starts (New t e) at scope k none = prep_starts e (0 ∷ at) scope k none
-    prep_starts _ at scope k none = tt
+    prep_starts = on_tree {Of = λ e. (at : Place) → (scope : List ℕ) → (k : List PointName) → AreNone test scope → Starts (prep s e at scope k)} (record {
+      call = λ p sub actuals by_actuals at scope k none.
+          starts_both (prep s actuals (0 ∷ at) scope (row_at at 0 ∷ [])) _ (by_actuals (0 ∷ at) scope (row_at at 0 ∷ []) none)
+          (λ e. count_none (with_held s actuals (0 ∷ at) scope) (scope_same actuals (0 ∷ at) scope (row_at at 0 ∷ []) none e));
+      short = λ op p a q b on_a by_b at scope k none.
+          let behind : List NamedPoint = prep s b (1 ∷ at) (with_held s a (0 ∷ at) scope) k in
+          starts_either (has_call b) _ (prep s a (0 ∷ at) scope (entry behind k) ++ behind)
+          (starts_both (prep s a (0 ∷ at) scope (row_at at 0 ∷ [])) _ (on_a (0 ∷ at) scope (row_at at 0 ∷ []) none)
+          (λ e. count_none (with_held s a (0 ∷ at) scope) (scope_same a (0 ∷ at) scope (row_at at 0 ∷ []) none e)))
+          (starts_both (prep s a (0 ∷ at) scope (entry behind k)) behind (on_a (0 ∷ at) scope (entry behind k) none)
+          (λ e. by_b (1 ∷ at) (with_held s a (0 ∷ at) scope) k (scope_same a (0 ∷ at) scope (entry behind k) none e)));
+      binary = λ op a b on_a by_b at scope k none.
+          let behind : List NamedPoint = prep s b (1 ∷ at) (with_held s a (0 ∷ at) scope) k in
+          starts_both (prep s a (0 ∷ at) scope (entry behind k)) behind (on_a (0 ∷ at) scope (entry behind k) none)
+          (λ e. by_b (1 ∷ at) (with_held s a (0 ∷ at) scope) k (scope_same a (0 ∷ at) scope (entry behind k) none e));
+      list = λ a b on_a by_b at scope k none.
+          let behind : List NamedPoint = prep s b (1 ∷ at) (with_held s a (0 ∷ at) scope) k in
+          starts_both (prep s a (0 ∷ at) scope (entry behind k)) behind (on_a (0 ∷ at) scope (entry behind k) none)
+          (λ e. by_b (1 ∷ at) (with_held s a (0 ∷ at) scope) k (scope_same a (0 ∷ at) scope (entry behind k) none e));
+      element = λ a low high b on_a by_b at scope k none.
+          let behind : List NamedPoint = prep s b (1 ∷ at) (with_held s a (0 ∷ at) scope) k in
+          starts_both (prep s a (0 ∷ at) scope (entry behind k)) behind (on_a (0 ∷ at) scope (entry behind k) none)
+          (λ e. by_b (1 ∷ at) (with_held s a (0 ∷ at) scope) k (scope_same a (0 ∷ at) scope (entry behind k) none e));
+      name = λ p x e t by_e at scope k none.
+          by_e (0 ∷ at) scope k none;
+      component = λ i e by_e at scope k none.
+          by_e (0 ∷ at) scope k none;
+      designated = λ e by_e at scope k none.
+          by_e (0 ∷ at) scope k none;
+      image = λ t e by_e at scope k none.
+          by_e (0 ∷ at) scope k none;
+      parens = λ e by_e at scope k none.
+          by_e (0 ∷ at) scope k none;
+      unary = λ op e by_e at scope k none.
+          by_e (0 ∷ at) scope k none;
+      is_null = λ equal e by_e at scope k none.
+          by_e (0 ∷ at) scope k none;
+      aggregate = λ t e by_e at scope k none.
+          by_e (0 ∷ at) scope k none;
+      alike = λ t e by_e at scope k none.
+          by_e (0 ∷ at) scope k none;
+      allocator = λ t e by_e at scope k none.
+          by_e (0 ∷ at) scope k none;
+      others = λ e plain at scope k none. rw (plain_prep s e at scope k plain) (tt);
+    })
 
     uses_starts : (at : Place) (p : Pos) (e : TypedTree) (i : Instruction) (w : Around) (next : List PointName) → AreNone test w.scope → Starts (uses s at p e i w next)
     uses_starts at p e i w next none =

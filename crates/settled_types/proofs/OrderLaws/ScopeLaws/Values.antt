@@ -16,7 +16,7 @@ use Rattle.machine.specs.flow_paths.Points.{Place, PointName, row_at, NamedPoint
 use Rattle.machine.specs.flow_paths.Prep.{Setting, with_held, prep}
 use Rattle.machine.specs.flow_paths.Layout.{Around, within_loop, within_block, with_scope, declared, ending, ends, uses, uses_both, laid, laid_branches, laid_branch, laid_whens, laid_when}
 use Rattle.machine.specs.flow_paths.Laid.{declared_within, around_body, scope_at_end, function_end, procedure_end, sub_points}
-use Rattle.settled_types.proofs.TypedCases.{Laws, branch_none, branches_none, laid_none, on_code, when_none, whens_none}
+use Rattle.settled_types.proofs.TypedCases.{Laws, branch_none, branches_none, laid_none, on_code, on_tree, plain_prep, when_none, whens_none}
 use Rattle.settled_types.specs.OrderLaws.ScopeLaws.Code.{Once}
 use Rattle.settled_types.proofs.OrderLaws.ScopeLaws.Lists.{all_both, all_one, all_if, all_has, once_left, once_right, once_apart}
 
@@ -107,28 +107,43 @@ module _ (s : Setting) (P : ℕ → TypedTree → Type 0) where
 
   prep_good : (e : TypedTree) (at : Place) (scope : List ℕ) (k : List PointName) → Good (prep s e at scope k)
   unfolding prep
-  prep_good (typed.Call p sub actuals) at scope k =
-      one_more (prep s actuals (0 ∷ at) scope (row_at at 0 ∷ [])) _ (prep_good actuals (0 ∷ at) scope (row_at at 0 ∷ [])) tt
-  prep_good (Short op p a q b) at scope k =
-      let right : List NamedPoint = prep s b (1 ∷ at) (s.temporary at ∷ scope) (row_at at 1 ∷ []) in
-      all_if (IsOfText P) (has_call b) _ _
-      (both (prep s a (0 ∷ at) scope (row_at at 0 ∷ [])) _ (prep_good a (0 ∷ at) scope (row_at at 0 ∷ []))
-      (tt, one_more right _ (prep_good b (1 ∷ at) (s.temporary at ∷ scope) (row_at at 1 ∷ [])) tt))
-      (two (0 ∷ at) (1 ∷ at) a b scope _ _ k (prep_good a (0 ∷ at)) (prep_good b (1 ∷ at)))
-  prep_good (Binary op a b) at scope k = two (0 ∷ at) (1 ∷ at) a b scope _ _ k (prep_good a (0 ∷ at)) (prep_good b (1 ∷ at))
-  prep_good (typed.More a b) at scope k = two (0 ∷ at) (1 ∷ at) a b scope _ _ k (prep_good a (0 ∷ at)) (prep_good b (1 ∷ at))
-  prep_good (Element a low high b) at scope k = two (0 ∷ at) (1 ∷ at) a b scope _ _ k (prep_good a (0 ∷ at)) (prep_good b (1 ∷ at))
-  prep_good (Name p x e u) at scope k = prep_good e (0 ∷ at) scope k
-  prep_good (Component i e) at scope k = prep_good e (0 ∷ at) scope k
-  prep_good (Designated e) at scope k = prep_good e (0 ∷ at) scope k
-  prep_good (Image u e) at scope k = prep_good e (0 ∷ at) scope k
-  prep_good (Parens e) at scope k = prep_good e (0 ∷ at) scope k
-  prep_good (Unary op e) at scope k = prep_good e (0 ∷ at) scope k
-  prep_good (IsNull equal e) at scope k = prep_good e (0 ∷ at) scope k
-  prep_good (Aggregate u e) at scope k = prep_good e (0 ∷ at) scope k
-  prep_good (Alike u e) at scope k = prep_good e (0 ∷ at) scope k
-  prep_good (New u e) at scope k = prep_good e (0 ∷ at) scope k
-  prep_good _ at scope k = tt
+  prep_good = on_tree {Of = λ e. (at : Place) → (scope : List ℕ) → (k : List PointName) → Good (prep s e at scope k)} (record {
+    call = λ p sub actuals by_actuals at scope k.
+        one_more (prep s actuals (0 ∷ at) scope (row_at at 0 ∷ [])) _ (by_actuals (0 ∷ at) scope (row_at at 0 ∷ [])) tt;
+    short = λ op p a q b on_a by_b at scope k.
+        let right : List NamedPoint = prep s b (1 ∷ at) (s.temporary at ∷ scope) (row_at at 1 ∷ []) in
+        all_if (IsOfText P) (has_call b) _ _
+        (both (prep s a (0 ∷ at) scope (row_at at 0 ∷ [])) _ (on_a (0 ∷ at) scope (row_at at 0 ∷ []))
+        (tt, one_more right _ (by_b (1 ∷ at) (s.temporary at ∷ scope) (row_at at 1 ∷ [])) tt))
+        (two (0 ∷ at) (1 ∷ at) a b scope _ _ k (on_a (0 ∷ at)) (by_b (1 ∷ at)));
+    binary = λ op a b on_a by_b at scope k.
+        two (0 ∷ at) (1 ∷ at) a b scope _ _ k (on_a (0 ∷ at)) (by_b (1 ∷ at));
+    list = λ a b on_a by_b at scope k.
+        two (0 ∷ at) (1 ∷ at) a b scope _ _ k (on_a (0 ∷ at)) (by_b (1 ∷ at));
+    element = λ a low high b on_a by_b at scope k.
+        two (0 ∷ at) (1 ∷ at) a b scope _ _ k (on_a (0 ∷ at)) (by_b (1 ∷ at));
+    name = λ p x e u by_e at scope k.
+        by_e (0 ∷ at) scope k;
+    component = λ i e by_e at scope k.
+        by_e (0 ∷ at) scope k;
+    designated = λ e by_e at scope k.
+        by_e (0 ∷ at) scope k;
+    image = λ u e by_e at scope k.
+        by_e (0 ∷ at) scope k;
+    parens = λ e by_e at scope k.
+        by_e (0 ∷ at) scope k;
+    unary = λ op e by_e at scope k.
+        by_e (0 ∷ at) scope k;
+    is_null = λ equal e by_e at scope k.
+        by_e (0 ∷ at) scope k;
+    aggregate = λ u e by_e at scope k.
+        by_e (0 ∷ at) scope k;
+    alike = λ u e by_e at scope k.
+        by_e (0 ∷ at) scope k;
+    allocator = λ u e by_e at scope k.
+        by_e (0 ∷ at) scope k;
+    others = λ e plain at scope k. rw (plain_prep s e at scope k plain) (tt);
+  })
 
   uses_good : (at : Place) (p : Pos) (e : TypedTree) (i : Instruction) (w : Around) (next : List PointName) → IsOf P i → Good (uses s at p e i w next)
   uses_good at p e i w next h = one_more (prep s e (0 ∷ at) w.scope (row_at at 0 ∷ [])) _ (prep_good e (0 ∷ at) w.scope (row_at at 0 ∷ [])) h

@@ -16,7 +16,7 @@ use Rattle.machine.specs.flow_paths.Points.{Place, PointName, row_at, NamedPoint
 use Rattle.machine.specs.flow_paths.Prep.{Setting, held, with_held, prep}
 use Rattle.machine.specs.flow_paths.Layout.{Around, within_loop, within_block, with_scope, declared, from, ending, ends, closing, choices_of, laid, laid_branches, laid_branch, laid_whens, laid_when}
 use Rattle.machine.specs.flow_paths.Laid.{around_body, scope_at_end, procedure_end, function_end, sub_points, declared_within}
-use Rattle.settled_types.proofs.TypedCases.{Laws, branch_none, branches_none, laid_none, on_code, when_none, whens_none}
+use Rattle.settled_types.proofs.TypedCases.{Laws, branch_none, branches_none, laid_none, on_code, on_tree, plain_prep, when_none, whens_none}
 use Rattle.settled_types.specs.OrderLaws.ScopeLaws.Code.{objects_of}
 use Rattle.settled_types.proofs.OrderLaws.ScopeLaws.Lists.{all_both, all_one, all_if, has_reverse}
 use Rattle.settled_types.proofs.OrderLaws.ScopeLaws.Ordered.{declared_within_has, held_temporary}
@@ -78,31 +78,46 @@ module _ (s : Setting) (P : ℕ → Type 0) (temporary : (at : Place) → P (s.t
 
   prep_within : (e : TypedTree) (at : Place) (scope : List ℕ) (k : List PointName) → Each scope → Within (prep s e at scope k)
   unfolding prep
-  prep_within (typed.Call p sub actuals) at scope k h =
-      one_more (prep s actuals (0 ∷ at) scope (row_at at 0 ∷ [])) _ (prep_within actuals (0 ∷ at) scope (row_at at 0 ∷ []) h) (each_held actuals (0 ∷ at) scope h)
-  prep_within (Short op p a q b) at scope k h =
-      let right : List NamedPoint = prep s b (1 ∷ at) (s.temporary at ∷ scope) (row_at at 1 ∷ []) in
-      all_if IsWithin (has_call b) _ _
-      (both (prep s a (0 ∷ at) scope (row_at at 0 ∷ [])) _ (prep_within a (0 ∷ at) scope (row_at at 0 ∷ []) h) (
-        each_held a (0 ∷ at) scope h,
-        one_more right _ (prep_within b (1 ∷ at) (s.temporary at ∷ scope) (row_at at 1 ∷ []) (each_more at scope h))
-            (each_held b (1 ∷ at) (s.temporary at ∷ scope) (each_more at scope h)),
-      ))
-      (two_within (0 ∷ at) (1 ∷ at) a b scope k (prep_within a (0 ∷ at)) (prep_within b (1 ∷ at)) h)
-  prep_within (Binary op a b) at scope k h = two_within (0 ∷ at) (1 ∷ at) a b scope k (prep_within a (0 ∷ at)) (prep_within b (1 ∷ at)) h
-  prep_within (typed.More a b) at scope k h = two_within (0 ∷ at) (1 ∷ at) a b scope k (prep_within a (0 ∷ at)) (prep_within b (1 ∷ at)) h
-  prep_within (Element a low high b) at scope k h = two_within (0 ∷ at) (1 ∷ at) a b scope k (prep_within a (0 ∷ at)) (prep_within b (1 ∷ at)) h
-  prep_within (Name p x e t) at scope k h = prep_within e (0 ∷ at) scope k h
-  prep_within (Component i e) at scope k h = prep_within e (0 ∷ at) scope k h
-  prep_within (Designated e) at scope k h = prep_within e (0 ∷ at) scope k h
-  prep_within (Image t e) at scope k h = prep_within e (0 ∷ at) scope k h
-  prep_within (Parens e) at scope k h = prep_within e (0 ∷ at) scope k h
-  prep_within (Unary op e) at scope k h = prep_within e (0 ∷ at) scope k h
-  prep_within (IsNull equal e) at scope k h = prep_within e (0 ∷ at) scope k h
-  prep_within (Aggregate t e) at scope k h = prep_within e (0 ∷ at) scope k h
-  prep_within (Alike t e) at scope k h = prep_within e (0 ∷ at) scope k h
-  prep_within (New t e) at scope k h = prep_within e (0 ∷ at) scope k h
-  prep_within _ at scope k h = tt
+  prep_within = on_tree {Of = λ e. (at : Place) → (scope : List ℕ) → (k : List PointName) → Each scope → Within (prep s e at scope k)} (record {
+    call = λ p sub actuals by_actuals at scope k h.
+        one_more (prep s actuals (0 ∷ at) scope (row_at at 0 ∷ [])) _ (by_actuals (0 ∷ at) scope (row_at at 0 ∷ []) h) (each_held actuals (0 ∷ at) scope h);
+    short = λ op p a q b on_a by_b at scope k h.
+        let right : List NamedPoint = prep s b (1 ∷ at) (s.temporary at ∷ scope) (row_at at 1 ∷ []) in
+        all_if IsWithin (has_call b) _ _
+        (both (prep s a (0 ∷ at) scope (row_at at 0 ∷ [])) _ (on_a (0 ∷ at) scope (row_at at 0 ∷ []) h) (
+          each_held a (0 ∷ at) scope h,
+          one_more right _ (by_b (1 ∷ at) (s.temporary at ∷ scope) (row_at at 1 ∷ []) (each_more at scope h))
+              (each_held b (1 ∷ at) (s.temporary at ∷ scope) (each_more at scope h)),
+        ))
+        (two_within (0 ∷ at) (1 ∷ at) a b scope k (on_a (0 ∷ at)) (by_b (1 ∷ at)) h);
+    binary = λ op a b on_a by_b at scope k h.
+        two_within (0 ∷ at) (1 ∷ at) a b scope k (on_a (0 ∷ at)) (by_b (1 ∷ at)) h;
+    list = λ a b on_a by_b at scope k h.
+        two_within (0 ∷ at) (1 ∷ at) a b scope k (on_a (0 ∷ at)) (by_b (1 ∷ at)) h;
+    element = λ a low high b on_a by_b at scope k h.
+        two_within (0 ∷ at) (1 ∷ at) a b scope k (on_a (0 ∷ at)) (by_b (1 ∷ at)) h;
+    name = λ p x e t by_e at scope k h.
+        by_e (0 ∷ at) scope k h;
+    component = λ i e by_e at scope k h.
+        by_e (0 ∷ at) scope k h;
+    designated = λ e by_e at scope k h.
+        by_e (0 ∷ at) scope k h;
+    image = λ t e by_e at scope k h.
+        by_e (0 ∷ at) scope k h;
+    parens = λ e by_e at scope k h.
+        by_e (0 ∷ at) scope k h;
+    unary = λ op e by_e at scope k h.
+        by_e (0 ∷ at) scope k h;
+    is_null = λ equal e by_e at scope k h.
+        by_e (0 ∷ at) scope k h;
+    aggregate = λ t e by_e at scope k h.
+        by_e (0 ∷ at) scope k h;
+    alike = λ t e by_e at scope k h.
+        by_e (0 ∷ at) scope k h;
+    allocator = λ t e by_e at scope k h.
+        by_e (0 ∷ at) scope k h;
+    others = λ e plain at scope k h. rw (plain_prep s e at scope k plain) (tt);
+  })
 
   used : (at : Place) (p : Pos) (e : TypedTree) (i : Instruction) (scope : List ℕ) (next : List PointName) → Each scope
       → Within (prep s e (0 ∷ at) scope (row_at at 0 ∷ []) ++ point (row_at at 0) p i (with_held s e (0 ∷ at) scope) next ∷ [])

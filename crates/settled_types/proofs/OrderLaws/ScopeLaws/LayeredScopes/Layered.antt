@@ -20,7 +20,7 @@ use Rattle.machine.specs.flow_paths.Scopes.{leaves_silently, is_declaration, is_
 use Rattle.machine.specs.flow_paths.Views.{scope_of}
 use Rattle.flow_paths.proofs.ScopesFlow.{drop_held}
 use Rattle.flow_paths.proofs.StatementScopes.{after, after_undeclaring, after_more}
-use Rattle.settled_types.proofs.TypedCases.{Laws, branch_none, branches_none, laid_none, on_code, when_none, whens_none}
+use Rattle.settled_types.proofs.TypedCases.{Laws, branch_none, branches_none, laid_none, on_code, on_tree, plain_prep, when_none, whens_none}
 use Rattle.settled_types.proofs.OrderLaws.ScopeLaws.Lists.{and_first, and_second, all_both, has_reverse}
 use Rattle.settled_types.specs.OrderLaws.ScopeLaws.LayeredScopes.Layered.{are_of_scope, are_apart, is_layered, is_each_layered, is_region, is_body_layered}
 use Rattle.settled_types.specs.OrderLaws.ScopeLaws.LayeredScopes.Points.{IsAbove, GoesOn, AreFading}
@@ -131,28 +131,43 @@ module _ (s : Setting) (older : ℕ → ℕ → Bool) (fits : Instruction → Bo
 
   prep_good : (e : TypedTree) (at : Place) (scope : List ℕ) (k : List PointName) → Good (prep s e at scope k)
   unfolding prep
-  prep_good (typed.Call p sub actuals) at scope k =
-      one_more (prep s actuals (0 ∷ at) scope (row_at at 0 ∷ [])) _ (prep_good actuals (0 ∷ at) scope (row_at at 0 ∷ [])) (quiet _ refl)
-  prep_good (Short op p a q b) at scope k =
-      let right : List NamedPoint = prep s b (1 ∷ at) (s.temporary at ∷ scope) (row_at at 1 ∷ []) in
-      if_good (has_call b) _ _
-      (both (prep s a (0 ∷ at) scope (row_at at 0 ∷ [])) _ (prep_good a (0 ∷ at) scope (row_at at 0 ∷ []))
-      (more _ _ refl (one_more right _ (prep_good b (1 ∷ at) (s.temporary at ∷ scope) (row_at at 1 ∷ [])) (quiet _ refl))))
-      (two (0 ∷ at) (1 ∷ at) a b scope _ _ k (prep_good a (0 ∷ at)) (prep_good b (1 ∷ at)))
-  prep_good (Binary op a b) at scope k = two (0 ∷ at) (1 ∷ at) a b scope _ _ k (prep_good a (0 ∷ at)) (prep_good b (1 ∷ at))
-  prep_good (typed.More a b) at scope k = two (0 ∷ at) (1 ∷ at) a b scope _ _ k (prep_good a (0 ∷ at)) (prep_good b (1 ∷ at))
-  prep_good (Element a low high b) at scope k = two (0 ∷ at) (1 ∷ at) a b scope _ _ k (prep_good a (0 ∷ at)) (prep_good b (1 ∷ at))
-  prep_good (Name p x e t) at scope k = prep_good e (0 ∷ at) scope k
-  prep_good (Component i e) at scope k = prep_good e (0 ∷ at) scope k
-  prep_good (Designated e) at scope k = prep_good e (0 ∷ at) scope k
-  prep_good (Image t e) at scope k = prep_good e (0 ∷ at) scope k
-  prep_good (Parens e) at scope k = prep_good e (0 ∷ at) scope k
-  prep_good (Unary op e) at scope k = prep_good e (0 ∷ at) scope k
-  prep_good (IsNull equal e) at scope k = prep_good e (0 ∷ at) scope k
-  prep_good (Aggregate t e) at scope k = prep_good e (0 ∷ at) scope k
-  prep_good (Alike t e) at scope k = prep_good e (0 ∷ at) scope k
-  prep_good (New t e) at scope k = prep_good e (0 ∷ at) scope k
-  prep_good _ at scope k = none
+  prep_good = on_tree {Of = λ e. (at : Place) → (scope : List ℕ) → (k : List PointName) → Good (prep s e at scope k)} (record {
+    call = λ p sub actuals by_actuals at scope k.
+        one_more (prep s actuals (0 ∷ at) scope (row_at at 0 ∷ [])) _ (by_actuals (0 ∷ at) scope (row_at at 0 ∷ [])) (quiet _ refl);
+    short = λ op p a q b on_a by_b at scope k.
+        let right : List NamedPoint = prep s b (1 ∷ at) (s.temporary at ∷ scope) (row_at at 1 ∷ []) in
+        if_good (has_call b) _ _
+        (both (prep s a (0 ∷ at) scope (row_at at 0 ∷ [])) _ (on_a (0 ∷ at) scope (row_at at 0 ∷ []))
+        (more _ _ refl (one_more right _ (by_b (1 ∷ at) (s.temporary at ∷ scope) (row_at at 1 ∷ [])) (quiet _ refl))))
+        (two (0 ∷ at) (1 ∷ at) a b scope _ _ k (on_a (0 ∷ at)) (by_b (1 ∷ at)));
+    binary = λ op a b on_a by_b at scope k.
+        two (0 ∷ at) (1 ∷ at) a b scope _ _ k (on_a (0 ∷ at)) (by_b (1 ∷ at));
+    list = λ a b on_a by_b at scope k.
+        two (0 ∷ at) (1 ∷ at) a b scope _ _ k (on_a (0 ∷ at)) (by_b (1 ∷ at));
+    element = λ a low high b on_a by_b at scope k.
+        two (0 ∷ at) (1 ∷ at) a b scope _ _ k (on_a (0 ∷ at)) (by_b (1 ∷ at));
+    name = λ p x e t by_e at scope k.
+        by_e (0 ∷ at) scope k;
+    component = λ i e by_e at scope k.
+        by_e (0 ∷ at) scope k;
+    designated = λ e by_e at scope k.
+        by_e (0 ∷ at) scope k;
+    image = λ t e by_e at scope k.
+        by_e (0 ∷ at) scope k;
+    parens = λ e by_e at scope k.
+        by_e (0 ∷ at) scope k;
+    unary = λ op e by_e at scope k.
+        by_e (0 ∷ at) scope k;
+    is_null = λ equal e by_e at scope k.
+        by_e (0 ∷ at) scope k;
+    aggregate = λ t e by_e at scope k.
+        by_e (0 ∷ at) scope k;
+    alike = λ t e by_e at scope k.
+        by_e (0 ∷ at) scope k;
+    allocator = λ t e by_e at scope k.
+        by_e (0 ∷ at) scope k;
+    others = λ e plain at scope k. rw (plain_prep s e at scope k plain) (none);
+  })
 
   used : (at : Place) (e : TypedTree) (scope : List ℕ) (q : NamedPoint) → Good (q ∷ []) → Good (prep s e (0 ∷ at) scope (row_at at 0 ∷ []) ++ q ∷ [])
   used at e scope q h = one_more (prep s e (0 ∷ at) scope (row_at at 0 ∷ [])) q (prep_good e (0 ∷ at) scope (row_at at 0 ∷ [])) h
