@@ -100,7 +100,7 @@ use Rattle.accepted_runs.specs.ViewedFiles.ViewLaws.Program.{PassActuals, Traver
 use Rattle.accepted_runs.proofs.ViewedFiles.ViewLaws.Ready.{views_ready}
 use Rattle.accepted_runs.proofs.ViewedFiles.Sources.{scalar_plain}
 use Rattle.accepted_runs.proofs.ViewedFiles.Variables.{named_variable}
-use Rattle.accepted_runs.proofs.ViewedFiles.Passed.{actuals_passed}
+use Rattle.accepted_runs.proofs.ViewedFiles.Passed.{actuals_passed, named_type}
 use Rattle.accepted_runs.proofs.ViewedFiles.Stored.{are_stored}
 use Rattle.accepted_runs.proofs.ViewedFiles.Traversals.{declares_view, assigns_view, holds_view, called_name, returns_source}
 use Rattle.accepted_runs.proofs.ViewedFiles.Main.{IsGiven, views_in_order}
@@ -134,12 +134,6 @@ heads x y xs ys e = cc
 
 tails : (x y : TypedSub) (xs ys : List TypedSub) → x ∷ xs ≡ y ∷ ys → xs ≡ ys
 tails x y xs ys e = cc
-
-named_type : (z : Shape) → flow.is_anonymous (view_of z) ≡ false → (d : ℕ) (c n : Bool) → z ≡ shape.Access d c n → n ≡ true
-named_type (shape.Access e k true) plain d c n is = cc
-named_type (shape.Access e true false) plain d c n is = absurd (true≢false plain)
-named_type (shape.Access e false false) plain d c n is = absurd (true≢false plain)
-named_type z plain d c n is = cc
 
 same_anonymous : (w : View) → is_anonymous w ≡ false → flow.is_anonymous w ≡ false
 same_anonymous (view.Access d k true) e = refl

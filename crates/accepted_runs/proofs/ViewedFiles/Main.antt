@@ -55,6 +55,7 @@ use Rattle.accepted_runs.proofs.ViewedFiles.Sources as source
 use Rattle.accepted_runs.proofs.ViewedFiles.Sources.{IsLocalView, DeclaresPlain, counts_plain}
 use Rattle.accepted_runs.proofs.ViewedFiles.Units.{units_went}
 use Rattle.accepted_runs.proofs.ViewedFiles.Roots.{roots_formal}
+use Rattle.soundness.proofs.Parted.{by_either}
 
 -- ---- lists of objects
 
@@ -235,10 +236,9 @@ module _ (p : Program) (made : ℕ → Type 0) (laws : Laws (known_of p) made) (
 
     pub local_views : (x : ℕ) → is_anonymous (view_of own x) ≡ true
         → ((is_variable (object_at own x).kind ≡ true) ⊎ (is_in_formal own x ≡ true)) × (is_package_object own x ≡ false)
-    local_views x view = elim (subst (λ os. IsLocalObject table (get_or os x text_io)) (sym objects_are) (all_local table (counts_plain _ laws.whole) all went.1 x) view) [
-      | inl (formal, of_in) ↦ (inr (ap (λ b. b && is_in (object_at own x).mode) formal ∙ ap is_in of_in), given.apart x formal)
-      | inr here ↦ (inl here.0, here.1)
-    ]
+    local_views x view = by_either (subst (λ os. IsLocalObject table (get_or os x text_io)) (sym objects_are) (all_local table (counts_plain _ laws.whole) all went.1 x) view)
+        (λ (formal, of_in). (inr (ap (λ b. b && is_in (object_at own x).mode) formal ∙ ap is_in of_in), given.apart x formal))
+        (λ here. (inl here.0, here.1))
 
     shared_plain : (x : ℕ) → is_package_object own x ≡ true → is_anonymous (view_of own x) ≡ false
     shared_plain x shared = by (is_anonymous (view_of own x)) refl

@@ -45,11 +45,10 @@ either_second : (a b : Bool) → a || b ≡ false → b ≡ false
 either_second true b e = absurd (true≢false e)
 either_second false b e = e
 
-named_type : (z : Shape) → is_anonymous (types.view_of z) ≡ false → (d : ℕ) (c n : Bool) → z ≡ shape.Access d c n → n ≡ true
-named_type (shape.Access e k true) plain d c n is = cc
-named_type (shape.Access e true false) plain d c n is = absurd (true≢false plain)
-named_type (shape.Access e false false) plain d c n is = absurd (true≢false plain)
-named_type z plain d c n is = cc
+pub named_type : (z : Shape) → is_anonymous (types.view_of z) ≡ false → (d : ℕ) (c n : Bool) → z ≡ shape.Access d c n → n ≡ true
+named_type z plain d c true is = refl
+named_type z plain d true false is = absurd (true≢false (subst (λ z. is_anonymous (types.view_of z) ≡ false) is plain))
+named_type z plain d false false is = absurd (true≢false (subst (λ z. is_anonymous (types.view_of z) ≡ false) is plain))
 
 -- What a formal of an anonymous access type sees is a name.
 abbrev NamesView : Typing → ℕ → TypedTree → Type 0

@@ -41,6 +41,7 @@ use Rattle.settled_types.proofs.OrderLaws.ReadyLaws.Elaborated.{package_declares
 use Rattle.settled_types.proofs.OrderLaws.ReadyLaws.Ready.{seen_has}
 use Rattle.settled_types.proofs.OrderLaws.ReadyLaws.Subs.{setting_from, named_cases}
 use Rattle.viewed_steps.specs.Sound.{IsStoredAt}
+use Rattle.soundness.proofs.Parted.{by_either}
 
 true_is : {A : Type 0} → true ≡ false → A
 true_is e = absurd (true≢false e)
@@ -200,24 +201,17 @@ module _ (table : Table) (typed : TypedProgram) (effects : Effects) (accepted : 
       let named = Has-map_from (flow_sub own) (flow_named table typed) sub has in
       let q = Has-map_from (λ (z : NamedPoint). flow_at own named.0 z) (named.0).points p (subst (λ (z : FlowSub). Has z.points p) (sym named.2) there) in
       let same : (q.0).instr ≡ p.instr = ap (λ (z : FlowPoint). z.instr) q.2 in
-      let here : (is_formal s x ≡ false) × IsOfText x ⊎ ((q : Pos) × (u : ℕ) × (e : TypedTree) × (p.instr ≡ Assign (Name q x NoMore u) e) × IsOfText x) = elim stored [
-        | inl (v, is) ↦ inl (subst (Begins IsNone) (same ∙ is) (begun_named named.0 named.1 q.0 q.1))
-        | inr (at, u, e, is) ↦ inr (at, u, e, is, assigned_text named.0 named.1 q.0 q.1 at x u e (same ∙ is))
-      ] in
-      elim here [
-        | inl (none, text) ↦ elim (variable_or x text view) [
-          | inl variable ↦ variable
-          | inr formal ↦ true_is (sym (both_first (is_formal s x) (is_in (object_at s x).mode) formal) ∙ none)
-        ]
-        | inr (at, u, e, is, text) ↦ elim (variable_or x text view) [
-          | inl variable ↦ variable
-          | inr formal ↦ absurd (unwritten named.0 named.1 q.0 q.1 (subst (Has program.subs) (sym named.2) has)
-              (subst (λ (z : FlowPoint). Has (flow_sub own named.0).points z) (sym q.2) (subst (λ (z : FlowSub). Has z.points p) (sym named.2) there)) at x u e (same ∙ is) formal view)
-        ]
-      ]
+      let here : (is_formal s x ≡ false) × IsOfText x ⊎ ((q : Pos) × (u : ℕ) × (e : TypedTree) × (p.instr ≡ Assign (Name q x NoMore u) e) × IsOfText x) = by_either stored
+      (λ (v, is). (inl (subst (Begins IsNone) (same ∙ is) (begun_named named.0 named.1 q.0 q.1))))
+      (λ (at, u, e, is). (inr (at, u, e, is, assigned_text named.0 named.1 q.0 q.1 at x u e (same ∙ is)))) in
+      by_either here
+      (λ (none, text). (by_either (variable_or x text view) (λ variable. (variable)) (λ formal. (true_is (sym (both_first (is_formal s x) (is_in (object_at s x).mode) formal) ∙ none)))))
+      (λ (at, u, e, is, text). (by_either (variable_or x text view)
+      (λ variable. (variable))
+      (λ formal. (absurd (unwritten named.0 named.1 q.0 q.1 (subst (Has program.subs) (sym named.2) has)
+      (subst (λ (z : FlowPoint). Has (flow_sub own named.0).points z) (sym q.2) (subst (λ (z : FlowSub). Has z.points p) (sym named.2) there)) at x u e (same ∙ is) formal view)))))
     where
       variable_or : (x : ℕ) → IsOfText x → is_anonymous (view_of s x) ≡ true → (is_variable (object_at s x).kind ≡ true) ⊎ (is_in_formal s x ≡ true)
-      variable_or x text view = elim (local x (sym (λ j. is_anonymous (full (alike.table j) (text j).of)) ∙ view)) [
-        | inl variable ↦ inl (ap (λ (o : Object). is_variable o.kind) text ∙ variable)
-        | inr formal ↦ inr (ap (λ (o : Object). is_formal_kind o.kind && is_in o.mode) text ∙ formal)
-      ]
+      variable_or x text view = by_either (local x (sym (λ j. is_anonymous (full (alike.table j) (text j).of)) ∙ view))
+          (λ variable. (inl (ap (λ (o : Object). is_variable o.kind) text ∙ variable)))
+          (λ formal. (inr (ap (λ (o : Object). is_formal_kind o.kind && is_in o.mode) text ∙ formal)))

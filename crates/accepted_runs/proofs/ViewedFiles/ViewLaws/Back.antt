@@ -32,6 +32,7 @@ use Rattle.accepted_runs.proofs.ViewedFiles.ViewLaws.Changed as acted
 use Rattle.accepted_runs.proofs.ViewedFiles.ViewLaws.Changed.{both_first, seen_one}
 use Rattle.accepted_runs.proofs.ViewedFiles.ViewLaws.Sees as sights
 use Rattle.accepted_runs.proofs.ViewedFiles.ViewLaws.Sees.{borrower_anonymous, borrower_plain}
+use Rattle.soundness.proofs.Parted.{by_either}
 
 no_variable : (k : ObjectKind) → is_formal_kind k ≡ true → is_variable k ≡ false
 no_variable object_kind.Formal is = refl
@@ -92,17 +93,15 @@ module _ (table : Table) (typed : TypedProgram) (effects : Effects) (given : IsV
       → Has (objects_of named.sub) x → GoesBack named x
   back_within zero x sees borrower named in_bodies object =
       absurd (let no : false ≡ true = sym (borrower_plain s x borrower) ∙ zero_within s (program_acts program) x sees in false≢true no)
-  back_within (suc steps) x sees borrower named in_bodies object = elim (from_within s (program_acts program) steps x sees) [
-    | inl only ↦ absurd (let no : false ≡ true = sym (borrower_plain s x borrower) ∙ only in false≢true no)
-    | inr (is, m, has, from) ↦ (
-        let b = sights.borrowed_here table typed effects given x m has in
-        let same : b.named ≡ named =
-        sights.one_body table typed effects given b.named named (inside x m b) in_bodies x (sights.object_there table typed effects given x m b) object in
-        subst (λ z. GoesBack z x) same (elim (kind_within s (program_acts program) steps m.root from) [
-          | inl only ↦ from_formal x m b only
-          | inr borrowed ↦ from_borrower x m b (back_within steps m.root from borrowed b.named (inside x m b) (source_there x m b borrowed))
-        ]))
-  ]
+  back_within (suc steps) x sees borrower named in_bodies object = by_either (from_within s (program_acts program) steps x sees)
+      (λ only. (absurd (let no : false ≡ true = sym (borrower_plain s x borrower) ∙ only in false≢true no)))
+      (λ (is, m, has, from). (
+      let b = sights.borrowed_here table typed effects given x m has in
+      let same : b.named ≡ named =
+      sights.one_body table typed effects given b.named named (inside x m b) in_bodies x (sights.object_there table typed effects given x m b) object in
+      subst (λ z. GoesBack z x) same (by_either (kind_within s (program_acts program) steps m.root from)
+      (λ only. (from_formal x m b only))
+      (λ borrowed. (from_borrower x m b (back_within steps m.root from borrowed b.named (inside x m b) (source_there x m b borrowed)))))))
 
   pub goes_back : (x : ℕ) → sees_in program x ≡ true → is_borrower s x ≡ true → (named : NamedSub) → Has (valued.bodies table typed effects given) named
       → Has (objects_of named.sub) x → GoesBack named x

@@ -11,6 +11,7 @@ use Rattle.machine.specs.flow_paths.Scopes.{is_temporary}
 use Rattle.machine.specs.flow_paths.Views.{scope_of}
 use Rattle.soundness.specs.Sound.{is_temporary_object}
 use Rattle.soundness.proofs.Typings.{Agree, flow_agrees}
+use Rattle.soundness.proofs.Parted.{by_either}
 
 -- After the objects of the text come temporaries.
 object_there : (xs : List Object) (ts : List Temporary) (x : ℕ)
@@ -48,10 +49,7 @@ module _ (table : Table) (typed : TypedProgram) where
 
   -- what is no temporary is a view where the text has one
   pub as_text : (x : ℕ) → is_temporary_object s x ≡ false → object_at s x ≡ object_at own x
-  as_text x lasts = elim (object_or x) [
-    | inl same ↦ same
-    | inr (temporary, scope, none) ↦ (let no : true ≡ false = sym temporary ∙ lasts in absurd (true≢false no))
-  ]
+  as_text x lasts = by_either (object_or x) (λ same. (same)) (λ (temporary, scope, none). (let no : true ≡ false = sym temporary ∙ lasts in absurd (true≢false no)))
 
   pub anonymous_same : (x : ℕ) → is_temporary_object s x ≡ false → is_anonymous (view_of s x) ≡ is_anonymous (view_of own x)
   anonymous_same x lasts = (λ j. is_anonymous (full (alike.table j) (as_text x lasts j).of))
@@ -71,7 +69,4 @@ module _ (table : Table) (typed : TypedProgram) where
   ]
 
   pub scope_same : (x : ℕ) → scope_of s x ≡ scope_of own x
-  scope_same x = elim (object_or x) [
-    | inl same ↦ ap (λ (o : Object). o.scope) same
-    | inr (temporary, scope, none) ↦ scope ∙ sym (ap (λ (o : Object). o.scope) none)
-  ]
+  scope_same x = by_either (object_or x) (λ same. (ap (λ (o : Object). o.scope) same)) (λ (temporary, scope, none). (scope ∙ sym (ap (λ (o : Object). o.scope) none)))

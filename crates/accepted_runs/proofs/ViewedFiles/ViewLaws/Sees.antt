@@ -1,6 +1,6 @@
 -- What only sees in an accepted program: a borrower does, if what it is declared from does, and only then. A
 -- borrower that does has a formal of its function for a root.
-use Rattle.std.specs.Prelude.{flat_map, is_some}
+use Rattle.std.specs.Prelude.{flat_map}
 use Rattle.std.proofs.Common.{◌≡◌, refl, sym, ap, ◌∙◌, subst, inl, inr, ℕ, ◌<◌, Bool, true, false, not, ◌&&◌, ◌||◌, List, [], ◌∷◌, map, length, Some, if◌then◌else◌}
 use Rattle.std.proofs.lemmas.Bool.{false≢true, true≢false}
 use Rattle.machine.specs.spark_base.Lists.{Has}

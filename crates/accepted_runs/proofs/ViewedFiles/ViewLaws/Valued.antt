@@ -63,6 +63,7 @@ use Rattle.accepted_runs.specs.ViewedFiles.ViewLaws.Program.{IsViewProgram}
 use Rattle.accepted_runs.proofs.ViewedFiles.ViewLaws.Acts.{no_anonymous}
 use Rattle.accepted_runs.proofs.ViewedFiles.ViewLaws.Formals.{passed_named}
 use Rattle.accepted_runs.proofs.ViewedFiles.ViewLaws.Constructors.{is_declare}
+use Rattle.soundness.proofs.Parted.{by_either}
 
 -- ---- lists
 
@@ -717,19 +718,15 @@ module _ (table : Table) (typed : TypedProgram) (effects : Effects) (given : IsV
     others i is no_call none found = plainly (types_at given_type boolean i) found.1 (plain_types i no_call none found.0) (subst (TakesScalars s) (sym is) (plain_stores i none))
 
     takes_by : (i : Instruction) → p.instr ≡ i → IsNoCall i → IsFine s named.sub.result i → Found i → Goal
-    takes_by (Declare x v) is no_call fine found = elim found.0 [
-      | inl source ↦ declared_takes x v is fine source found.1
-      | inr (q, m, a, same, single, calls) ↦ lone_takes q m a (inl (x, is ∙ ap (Declare x) same)) single
-    ]
-    takes_by (Assign target e) is no_call (t, place, source) found = elim found.0.1 [
-      | inl asked ↦ assigned_takes target e is t place found.0.0 asked found.1
-      | inr (q, m, a, same, single, calls, r, x, path, u, target_is, none) ↦
-          lone_takes q m a (inr (inl (r, x, path, u, is ∙ (λ j. Assign (target_is j) (same j)), none))) single
-    ]
-    takes_by (Hold v) is no_call fine found = elim found.0 [
-      | inl source ↦ returned_takes v is named.sub.result refl fine source found.1
-      | inr (q, m, a, same, single, calls) ↦ lone_takes q m a (inr (inr (is ∙ ap Hold same))) single
-    ]
+    takes_by (Declare x v) is no_call fine found = by_either found.0
+        (λ source. (declared_takes x v is fine source found.1))
+        (λ (q, m, a, same, single, calls). (lone_takes q m a (inl (x, is ∙ ap (Declare x) same)) single))
+    takes_by (Assign target e) is no_call (t, place, source) found = by_either found.0.1
+        (λ asked. (assigned_takes target e is t place found.0.0 asked found.1))
+        (λ (q, m, a, same, single, calls, r, x, path, u, target_is, none). (lone_takes q m a (inr (inl (r, x, path, u, is ∙ (λ j. Assign (target_is j) (same j)), none))) single))
+    takes_by (Hold v) is no_call fine found = by_either found.0
+        (λ source. (returned_takes v is named.sub.result refl fine source found.1))
+        (λ (q, m, a, same, single, calls). (lone_takes q m a (inr (inr (is ∙ ap Hold same))) single))
     takes_by i is no_call fine found = others i is no_call tt found
 
     -- actuals

@@ -32,6 +32,7 @@ use Rattle.accepted_runs.specs.ViewedFiles.ViewLaws.Program.{IsViewProgram}
 use Rattle.accepted_runs.proofs.ViewedFiles.ViewLaws.Acts.{no_anonymous}
 use Rattle.accepted_runs.proofs.ViewedFiles.ViewLaws.Valued as valued
 use Rattle.accepted_runs.proofs.ViewedFiles.ViewLaws.Constructors.{is_declare, declared_value}
+use Rattle.soundness.proofs.Parted.{by_either}
 
 next_same : (t x : ℕ) (rest others : List ℕ) → t ∷ rest ≡ x ∷ others → rest ≡ others
 next_same t x rest others same = cc
@@ -94,10 +95,7 @@ module _ (table : Table) (typed : TypedProgram) (effects : Effects) (given : IsV
         p (subst (λ (z : NamedSub). Has z.points p) (sym e) there)
 
     scope_lasts : (p : NamedPoint) → Has named.points p → (x : ℕ) → Has p.scope x → is_temporary_object s x ≡ false
-    scope_lasts p there x has = elim (lone_there p there) [
-      | inl good ↦ good x has
-      | inr (t, rest, is, others, q, n, a, takes, single) ↦ absurd (takes_none p there q n a takes)
-    ]
+    scope_lasts p there x has = by_either (lone_there p there) (λ good. (good x has)) (λ (t, rest, is, others, q, n, a, takes, single). (absurd (takes_none p there q n a takes)))
 
     -- What is named is no temporary.
     pub package_lasts : (p : NamedPoint) → Has named.points p → (x : ℕ) → Has (named_in p.instr) x → is_temporary_object s x ≡ false
@@ -137,12 +135,11 @@ module _ (table : Table) (typed : TypedProgram) (effects : Effects) (given : IsV
         p (valued.in_laid table typed effects given named has inside p there)
 
     body_named : (p : NamedPoint) → Has named.points p → AreNamedIn s p.scope ⊎ ((alone : TakesAlone s p) × AreNamedIn s alone.1)
-    body_named p there = elim (body_lone p there) [
-      | inl good ↦ inl good
-      | inr (t, rest, is, others, q, n, a, takes, single) ↦ (
-          let lone = valued.lone_taken table typed effects given named has inside p there q n a takes single in
-          inr (lone.0, subst (AreNamedIn s) (next_same t (lone.0).0 rest (lone.0).1 (sym is ∙ lone.1)) others))
-    ]
+    body_named p there = by_either (body_lone p there)
+        (λ good. (inl good))
+        (λ (t, rest, is, others, q, n, a, takes, single). (
+        let lone = valued.lone_taken table typed effects given named has inside p there q n a takes single in
+        inr (lone.0, subst (AreNamedIn s) (next_same t (lone.0).0 rest (lone.0).1 (sym is ∙ lone.1)) others)))
 
   seen_there : (named : NamedSub) → Has (flow_named table typed) named → (p : NamedPoint) → Has named.points p
       → AreNamedIn s p.scope ⊎ ((alone : TakesAlone s p) × AreNamedIn s alone.1)
