@@ -1,3 +1,4 @@
+pub mod ExpressionCases
 pub mod TypedCases
 pub mod Cases
 pub mod Counts

@@ -39,6 +39,7 @@ use Rattle.ada_tree.specs.declared.range.NextChoice.{NextChoice}
 use Rattle.ada_tree.specs.declared.range.NextChoice.TheVariants as next_choice
 use Rattle.name_events.specs.declared.event.Event.{Event}
 use Rattle.name_events.specs.ExpressionOutline.{name_events, suffixes_events, suffix_events, arg_box_events, next_args_events, next_arg_events, arg_events, expr_box_events, expr_events, operands_events, operand_events, short_operands_events, short_operand_events, rel_box_events, rel_events, sum_box_events, sum_events, next_terms_events, next_term_events, term_events, next_factors_events, next_factor_events, factor_events, primary_events, name_box_events, aggregate_box_events, aggregate_events, range_events, choice_events, next_choice_events}
+use Rattle.settled_types.proofs.ExpressionCases.{ExpressionLaws, on_arg, on_expr, on_name, on_next_arg}
 use Rattle.settled_types.specs.OrderlyFiles.Numbered.{is_quiet, all_quiet, is_flat, all_flat, are_mild}
 
 both : (a b : Bool) → a && b ≡ true → (a ≡ true) × (b ≡ true)
@@ -74,131 +75,119 @@ mild_each f one (x ∷ rest) = mild_both (f x) (flat_map f rest) (one x) (mild_e
 pub three_mild : (xs ys zs : List Event) → are_mild xs ≡ true → are_mild ys ≡ true → are_mild zs ≡ true → are_mild (xs ++ (ys ++ zs)) ≡ true
 three_mild xs ys zs a b c = mild_both xs (ys ++ zs) a (mild_both ys zs b c)
 
-mutual
-  unfolding name_events suffixes_events suffix_events arg_box_events next_args_events next_arg_events arg_events expr_box_events expr_events operands_events operand_events short_operands_events short_operand_events rel_box_events rel_events sum_box_events sum_events next_terms_events next_term_events term_events next_factors_events next_factor_events factor_events primary_events name_box_events aggregate_box_events aggregate_events
+name_mild_laws : ExpressionLaws (record {
+  of_name = λ n. are_mild (name_events n) ≡ true;
+  of_suffixes = λ n row. are_mild (suffixes_events row) ≡ true;
+  of_suffix = λ s. are_mild (suffix_events s) ≡ true;
+  of_arg_box = λ n row. are_mild (arg_box_events row) ≡ true;
+  of_next_args = λ n row. are_mild (next_args_events row) ≡ true;
+  of_next_arg = λ a. are_mild (next_arg_events a) ≡ true;
+  of_arg = λ a. are_mild (arg_events a) ≡ true;
+  of_expr_box = λ n row. are_mild (expr_box_events row) ≡ true;
+  of_expr = λ x. are_mild (expr_events x) ≡ true;
+  of_operands = λ n row. are_mild (operands_events row) ≡ true;
+  of_operand = λ o. are_mild (operand_events o) ≡ true;
+  of_short_operands = λ n row. are_mild (short_operands_events row) ≡ true;
+  of_short_operand = λ o. are_mild (short_operand_events o) ≡ true;
+  of_rel_box = λ n row. are_mild (rel_box_events row) ≡ true;
+  of_rel = λ r. are_mild (rel_events r) ≡ true;
+  of_sum_box = λ n row. are_mild (sum_box_events row) ≡ true;
+  of_sum = λ s. are_mild (sum_events s) ≡ true;
+  of_next_terms = λ n row. are_mild (next_terms_events row) ≡ true;
+  of_next_term = λ t. are_mild (next_term_events t) ≡ true;
+  of_term = λ t. are_mild (term_events t) ≡ true;
+  of_next_factors = λ n row. are_mild (next_factors_events row) ≡ true;
+  of_next_factor = λ f. are_mild (next_factor_events f) ≡ true;
+  of_factor = λ f. are_mild (factor_events f) ≡ true;
+  of_primary = λ p. are_mild (primary_events p) ≡ true;
+  of_name_box = λ n row. are_mild (name_box_events row) ≡ true;
+  of_aggregate_box = λ n row. are_mild (aggregate_box_events row) ≡ true;
+  of_aggregate = λ a. are_mild (aggregate_events a) ≡ true;
+})
+unfolding name_events suffixes_events suffix_events arg_box_events next_args_events next_arg_events arg_events expr_box_events expr_events operands_events operand_events short_operands_events short_operand_events rel_box_events rel_events sum_box_events sum_events next_terms_events next_term_events term_events next_factors_events next_factor_events factor_events primary_events name_box_events aggregate_box_events aggregate_events
+name_mild_laws = record {
+  name_prefixed = λ pos first _ rest by_rest. by_rest;
+  suffixes_end = refl;
+  suffixes_more = λ _ part rest by_part by_rest. mild_both (suffix_events part) (suffixes_events rest) (by_part) (by_rest);
+  suffix_applied = λ pos _ first _ rest right_paren by_first by_rest. mild_both (arg_box_events first) (next_args_events rest) (by_first) (by_rest);
+  suffix_selected = λ _ _. refl;
+  suffix_dereferenced = λ _ _. refl;
+  suffix_attribute = λ _ _. refl;
+  suffix_range_attribute = λ _ _. refl;
+  arg_box_end = refl;
+  arg_box_more = λ _ part rest by_part. by_part;
+  next_args_end = refl;
+  next_args_more = λ _ part rest by_part by_rest. mild_both (next_arg_events part) (next_args_events rest) (by_part) (by_rest);
+  next_arg_further_arg = λ pos _ part by_part. by_part;
+  arg_positional = λ pos _ value by_value. by_value;
+  arg_association = λ pos id arrow _ value by_value. by_value;
+  expr_box_end = refl;
+  expr_box_more = λ _ part rest by_part. by_part;
+  expr_lone_relation = λ pos _ relation by_relation. by_relation;
+  expr_and = λ pos _ first and _ second _ rest by_first by_second by_rest. three_mild (rel_box_events first) (rel_box_events second) (operands_events rest) (by_first)
+      (by_second) (by_rest);
+  expr_or = λ pos _ first or _ second _ rest by_first by_second by_rest. three_mild (rel_box_events first) (rel_box_events second) (operands_events rest) (by_first)
+      (by_second) (by_rest);
+  expr_xor = λ pos _ first xor _ second _ rest by_first by_second by_rest. three_mild (rel_box_events first) (rel_box_events second) (operands_events rest) (by_first)
+      (by_second) (by_rest);
+  expr_and_then = λ pos _ first and then_word _ second _ rest by_first by_second by_rest. three_mild (rel_box_events first) (rel_box_events second) (short_operands_events rest) (by_first)
+      (by_second) (by_rest);
+  expr_or_else = λ pos _ first or otherwise _ second _ rest by_first by_second by_rest. three_mild (rel_box_events first) (rel_box_events second) (short_operands_events rest) (by_first)
+      (by_second) (by_rest);
+  operands_end = refl;
+  operands_more = λ _ part rest by_part by_rest. mild_both (operand_events part) (operands_events rest) (by_part) (by_rest);
+  operand_further_operand = λ pos _ relation by_relation. by_relation;
+  short_operands_end = refl;
+  short_operands_more = λ _ part rest by_part by_rest. mild_both (short_operand_events part) (short_operands_events rest) (by_part) (by_rest);
+  short_operand_further_short_operand = λ pos second_word _ relation by_relation. by_relation;
+  rel_box_end = refl;
+  rel_box_more = λ _ part rest by_part. by_part;
+  rel_lone_sum = λ pos operand by_operand. by_operand;
+  rel_compared = λ pos _ left operator operator_pos _ right by_left by_right. mild_both (sum_box_events left) (sum_box_events right) (by_left) (by_right);
+  sum_box_end = refl;
+  sum_box_more = λ _ part rest by_part. by_part;
+  sum_unsigned = λ pos first _ rest by_first by_rest. mild_both (term_events first) (next_terms_events rest) (by_first) (by_rest);
+  sum_signed = λ pos sign first _ rest by_first by_rest. mild_both (term_events first) (next_terms_events rest) (by_first) (by_rest);
+  next_terms_end = refl;
+  next_terms_more = λ _ part rest by_part by_rest. mild_both (next_term_events part) (next_terms_events rest) (by_part) (by_rest);
+  next_term_further_term = λ pos operator part by_part. by_part;
+  term_product = λ pos first _ rest by_first by_rest. mild_both (factor_events first) (next_factors_events rest) (by_first) (by_rest);
+  next_factors_end = refl;
+  next_factors_more = λ _ part rest by_part by_rest. mild_both (next_factor_events part) (next_factors_events rest) (by_part) (by_rest);
+  next_factor_further_factor = λ pos operator part by_part. by_part;
+  factor_lone_primary = λ pos operand by_operand. by_operand;
+  factor_abs = λ pos operand by_operand. by_operand;
+  factor_not = λ pos operand by_operand. by_operand;
+  primary_named = λ pos _ part by_part. by_part;
+  primary_parenthesized = λ pos _ part right_paren by_part. by_part;
+  primary_aggregated = λ pos _ part by_part. by_part;
+  primary_allocated = λ pos mark. refl;
+  primary_allocated_aggregate = λ pos mark apostrophe _ part by_part. by_part;
+  primary_allocated_value = λ pos mark apostrophe left_paren _ value right_paren by_value. by_value;
+  primary_number = λ _ _. refl;
+  primary_text = λ _ _. refl;
+  primary_null = λ _. refl;
+  name_box_end = refl;
+  name_box_more = λ _ part rest by_part. by_part;
+  aggregate_box_end = refl;
+  aggregate_box_more = λ _ part rest by_part. by_part;
+  aggregate_several = λ pos _ first comma _ second _ rest right_paren by_first by_second by_rest. mild_both (arg_box_events first) (arg_box_events second ++ next_args_events rest) (by_first)
+      (mild_both (arg_box_events second) (next_args_events rest) (by_second) (by_rest));
+  aggregate_single = λ pos id arrow _ value right_paren by_value. by_value;
+  aggregate_others = λ pos others arrow _ value right_paren by_value. by_value;
+}
 
-  pub name_mild : (n : Name) → are_mild (name_events n) ≡ true
-  name_mild (name.Prefixed' pos first _ rest) = suffixes_mild rest
+pub name_mild : (n : Name) → are_mild (name_events n) ≡ true
+name_mild = on_name name_mild_laws
 
-  suffixes_mild : {n : _} (row : Row_of-Suffix n) → are_mild (suffixes_events row) ≡ true
-  suffixes_mild end_of-Suffix = refl
-  suffixes_mild (more_of-Suffix part rest) = mild_both (suffix_events part) (suffixes_events rest) (suffix_mild part) (suffixes_mild rest)
+pub next_arg_mild : (a : NextArg) → are_mild (next_arg_events a) ≡ true
+next_arg_mild = on_next_arg name_mild_laws
 
-  suffix_mild : (s : Suffix) → are_mild (suffix_events s) ≡ true
-  suffix_mild (suffix.Applied' pos _ first _ rest right_paren) =
-      mild_both (arg_box_events first) (next_args_events rest) (arg_box_mild first) (next_args_mild rest)
-  suffix_mild _ = refl
+pub arg_mild : (a : Arg) → are_mild (arg_events a) ≡ true
+arg_mild = on_arg name_mild_laws
 
-  arg_box_mild : {n : _} (row : Row_of-Arg n) → are_mild (arg_box_events row) ≡ true
-  arg_box_mild end_of-Arg = refl
-  arg_box_mild (more_of-Arg part rest) = arg_mild part
-
-  next_args_mild : {n : _} (row : Row_of-NextArg n) → are_mild (next_args_events row) ≡ true
-  next_args_mild end_of-NextArg = refl
-  next_args_mild (more_of-NextArg part rest) = mild_both (next_arg_events part) (next_args_events rest) (next_arg_mild part) (next_args_mild rest)
-
-  pub next_arg_mild : (a : NextArg) → are_mild (next_arg_events a) ≡ true
-  next_arg_mild (next_arg.FurtherArg' pos _ part) = arg_box_mild part
-
-  pub arg_mild : (a : Arg) → are_mild (arg_events a) ≡ true
-  arg_mild (arg.Positional' pos _ value) = expr_box_mild value
-  arg_mild (arg.Association' pos id arrow _ value) = expr_box_mild value
-
-  expr_box_mild : {n : _} (row : Row_of-Expr n) → are_mild (expr_box_events row) ≡ true
-  expr_box_mild end_of-Expr = refl
-  expr_box_mild (more_of-Expr part rest) = expr_mild part
-
-  pub expr_mild : (x : Expr) → are_mild (expr_events x) ≡ true
-  expr_mild (expr.LoneRelation' pos _ relation) = rel_box_mild relation
-  expr_mild (expr.And' pos _ first and _ second _ rest) = three_mild (rel_box_events first) (rel_box_events second) (operands_events rest) (rel_box_mild first)
-      (rel_box_mild second) (operands_mild rest)
-  expr_mild (expr.Or' pos _ first or _ second _ rest) = three_mild (rel_box_events first) (rel_box_events second) (operands_events rest) (rel_box_mild first)
-      (rel_box_mild second) (operands_mild rest)
-  expr_mild (expr.Xor' pos _ first xor _ second _ rest) = three_mild (rel_box_events first) (rel_box_events second) (operands_events rest) (rel_box_mild first)
-      (rel_box_mild second) (operands_mild rest)
-  expr_mild (expr.AndThen' pos _ first and then_word _ second _ rest) = three_mild (rel_box_events first) (rel_box_events second) (short_operands_events rest) (rel_box_mild first)
-      (rel_box_mild second) (short_operands_mild rest)
-  expr_mild (expr.OrElse' pos _ first or otherwise _ second _ rest) = three_mild (rel_box_events first) (rel_box_events second) (short_operands_events rest) (rel_box_mild first)
-      (rel_box_mild second) (short_operands_mild rest)
-
-  operands_mild : {n : _} (row : Row_of-Operand n) → are_mild (operands_events row) ≡ true
-  operands_mild end_of-Operand = refl
-  operands_mild (more_of-Operand part rest) = mild_both (operand_events part) (operands_events rest) (operand_mild part) (operands_mild rest)
-
-  operand_mild : (o : Operand) → are_mild (operand_events o) ≡ true
-  operand_mild (operand.FurtherOperand' pos _ relation) = rel_box_mild relation
-
-  short_operands_mild : {n : _} (row : Row_of-ShortOperand n) → are_mild (short_operands_events row) ≡ true
-  short_operands_mild end_of-ShortOperand = refl
-  short_operands_mild (more_of-ShortOperand part rest) =
-      mild_both (short_operand_events part) (short_operands_events rest) (short_operand_mild part) (short_operands_mild rest)
-
-  short_operand_mild : (o : ShortOperand) → are_mild (short_operand_events o) ≡ true
-  short_operand_mild (short_operand.FurtherShortOperand' pos second_word _ relation) = rel_box_mild relation
-
-  rel_box_mild : {n : _} (row : Row_of-Rel n) → are_mild (rel_box_events row) ≡ true
-  rel_box_mild end_of-Rel = refl
-  rel_box_mild (more_of-Rel part rest) = rel_mild part
-
-  rel_mild : (r : Rel) → are_mild (rel_events r) ≡ true
-  rel_mild (rel.LoneSum pos operand) = sum_mild operand
-  rel_mild (rel.Compared' pos _ left operator operator_pos _ right) =
-      mild_both (sum_box_events left) (sum_box_events right) (sum_box_mild left) (sum_box_mild right)
-
-  sum_box_mild : {n : _} (row : Row_of-Sum n) → are_mild (sum_box_events row) ≡ true
-  sum_box_mild end_of-Sum = refl
-  sum_box_mild (more_of-Sum part rest) = sum_mild part
-
-  sum_mild : (s : Sum) → are_mild (sum_events s) ≡ true
-  sum_mild (sum.Unsigned' pos first _ rest) = mild_both (term_events first) (next_terms_events rest) (term_mild first) (next_terms_mild rest)
-  sum_mild (sum.Signed' pos sign first _ rest) = mild_both (term_events first) (next_terms_events rest) (term_mild first) (next_terms_mild rest)
-
-  next_terms_mild : {n : _} (row : Row_of-NextTerm n) → are_mild (next_terms_events row) ≡ true
-  next_terms_mild end_of-NextTerm = refl
-  next_terms_mild (more_of-NextTerm part rest) = mild_both (next_term_events part) (next_terms_events rest) (next_term_mild part) (next_terms_mild rest)
-
-  next_term_mild : (t : NextTerm) → are_mild (next_term_events t) ≡ true
-  next_term_mild (next_term.FurtherTerm pos operator part) = term_mild part
-
-  term_mild : (t : Term) → are_mild (term_events t) ≡ true
-  term_mild (term.Product' pos first _ rest) = mild_both (factor_events first) (next_factors_events rest) (factor_mild first) (next_factors_mild rest)
-
-  next_factors_mild : {n : _} (row : Row_of-NextFactor n) → are_mild (next_factors_events row) ≡ true
-  next_factors_mild end_of-NextFactor = refl
-  next_factors_mild (more_of-NextFactor part rest) =
-      mild_both (next_factor_events part) (next_factors_events rest) (next_factor_mild part) (next_factors_mild rest)
-
-  next_factor_mild : (f : NextFactor) → are_mild (next_factor_events f) ≡ true
-  next_factor_mild (next_factor.FurtherFactor pos operator part) = factor_mild part
-
-  factor_mild : (f : Factor) → are_mild (factor_events f) ≡ true
-  factor_mild (factor.LonePrimary pos operand) = primary_mild operand
-  factor_mild (factor.Abs pos operand) = primary_mild operand
-  factor_mild (factor.Not pos operand) = primary_mild operand
-
-  primary_mild : (p : Primary) → are_mild (primary_events p) ≡ true
-  primary_mild (primary.Named' pos _ part) = name_box_mild part
-  primary_mild (primary.Parenthesized' pos _ part right_paren) = expr_box_mild part
-  primary_mild (primary.Aggregated' pos _ part) = aggregate_box_mild part
-  primary_mild (primary.Allocated pos mark) = refl
-  primary_mild (primary.AllocatedAggregate' pos mark apostrophe _ part) = aggregate_box_mild part
-  primary_mild (primary.AllocatedValue' pos mark apostrophe left_paren _ value right_paren) = expr_box_mild value
-  primary_mild _ = refl
-
-  name_box_mild : {n : _} (row : Row_of-Name n) → are_mild (name_box_events row) ≡ true
-  name_box_mild end_of-Name = refl
-  name_box_mild (more_of-Name part rest) = name_mild part
-
-  aggregate_box_mild : {n : _} (row : Row_of-Aggregate n) → are_mild (aggregate_box_events row) ≡ true
-  aggregate_box_mild end_of-Aggregate = refl
-  aggregate_box_mild (more_of-Aggregate part rest) = aggregate_mild part
-
-  aggregate_mild : (a : Aggregate) → are_mild (aggregate_events a) ≡ true
-  aggregate_mild (aggregate.Several' pos _ first comma _ second _ rest right_paren) =
-      mild_both (arg_box_events first) (arg_box_events second ++ next_args_events rest) (arg_box_mild first)
-      (mild_both (arg_box_events second) (next_args_events rest) (arg_box_mild second) (next_args_mild rest))
-  aggregate_mild (aggregate.Single' pos id arrow _ value right_paren) = expr_box_mild value
-  aggregate_mild (aggregate.Others' pos others arrow _ value right_paren) = expr_box_mild value
+pub expr_mild : (x : Expr) → are_mild (expr_events x) ≡ true
+expr_mild = on_expr name_mild_laws
 
 pub range_mild : (r : Range) → are_mild (range_events r) ≡ true
 unfolding range_events

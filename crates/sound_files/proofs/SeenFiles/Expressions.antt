@@ -49,6 +49,7 @@ use Rattle.machine.specs.resolved_tree.declared.operator.Operator.TheVariants as
 use Rattle.machine.specs.resolved_tree.Trees.{Tree, list_of}
 use Rattle.machine.specs.resolved_tree.Trees as t
 use Rattle.expression_lowering.specs.LoweredExpressions.{Numbers, number_of, before_others, last_of, sign_operator, chained, selected_number, selected_numbers, lowered_name, lowered_suffixes, lowered_suffix, box_before, args_row, next_arg_before, arg_before, lowered_expr_box, lowered_expr, operands_row, lowered_operand, short_operands_row, lowered_short_operand, lowered_rel_box, lowered_rel, lowered_sum_box, lowered_sum, terms_row, lowered_next_term, lowered_term, factors_row, lowered_next_factor, lowered_factor, lowered_primary, lowered_name_box, lowered_aggregate_box, lowered_aggregate, lowered_range}
+use Rattle.settled_types.proofs.ExpressionCases.{ExpressionLaws, on_arg, on_expr, on_name, on_next_arg}
 use Rattle.sound_files.specs.SeenFiles.Uses.{Uses, numbers_along, AreAllowed}
 use Rattle.sound_files.specs.SeenFiles.Fits.{RangeFits, IsKept}
 
@@ -150,173 +151,144 @@ module _ (numbers : Numbers) (asked : ℕ → Type 0) where
       says_so (xs ++ zs) (Use a × AllNext rest) (Use (chained pos a rest)) (λ p. chain pos a rest p.0 p.1)
       (speaks_both xs zs (Use a) (AllNext rest) s v)
 
-  mutual
-    unfolding name_events suffixes_events suffix_events arg_box_events next_args_events next_arg_events arg_events expr_box_events expr_events operands_events operand_events short_operands_events short_operand_events rel_box_events rel_events sum_box_events sum_events next_terms_events next_term_events term_events next_factors_events next_factor_events factor_events primary_events name_box_events aggregate_box_events aggregate_events lowered_name lowered_suffixes lowered_suffix box_before args_row next_arg_before arg_before lowered_expr_box lowered_expr operands_row lowered_operand short_operands_row lowered_short_operand lowered_rel_box lowered_rel lowered_sum_box lowered_sum terms_row lowered_next_term lowered_term factors_row lowered_next_factor lowered_factor lowered_primary lowered_name_box lowered_aggregate_box lowered_aggregate Uses AreAllowed
-
-    pub name_speaks : (n : Name) → Speaks (name_events n) (Use (lowered_name numbers n))
-    name_speaks (name.Prefixed' pos first _ rest) =
-        let s = suffixes_speak rest in (
-          s.0,
-          λ a. (
-            subst (λ ns. asked (last_of (number_of numbers first) ns)) (along rest) a.0,
-            listed (drop (length (selected_numbers numbers rest)) (lowered_suffixes numbers rest))
-                (dropped (length (selected_numbers numbers rest)) (lowered_suffixes numbers rest) (s.1 a.1)),
-          ),
-        )
-
-    suffixes_speak : {n : _} (row : Row_of-Suffix n) → Speaks (suffixes_events row) (AllUse (lowered_suffixes numbers row))
-    suffixes_speak end_of-Suffix = nothing (Unit {0}) tt
-    suffixes_speak (more_of-Suffix part rest) =
-        speaks_both (suffix_events part) (suffixes_events rest) (Use (lowered_suffix numbers part)) (AllUse (lowered_suffixes numbers rest))
-        (suffix_speaks part) (suffixes_speak rest)
-
-    suffix_speaks : (s : Suffix) → Speaks (suffix_events s) (Use (lowered_suffix numbers s))
-    suffix_speaks (suffix.Applied' pos _ first _ rest right_paren) =
-        let others : Tree = args_row numbers rest in
-        two_args (arg_box_events first) (next_args_events rest) (Use others) (Use (box_before numbers others first)) (arg_box_speaks others first)
-        (next_args_speak rest)
-    suffix_speaks (suffix.Selected pos id) = nothing (Unit {0}) tt
-    suffix_speaks (suffix.Dereferenced pos all) = nothing (Unit {0}) tt
-    suffix_speaks (suffix.Attribute pos id) = nothing (Unit {0}) tt
-    suffix_speaks (suffix.RangeAttribute pos range) = nothing (Unit {0}) tt
-
-    arg_box_speaks : {n : _} (others : Tree) (row : Row_of-Arg n) → Speaks (arg_box_events row) (Use others → Use (box_before numbers others row))
-    arg_box_speaks others end_of-Arg = nothing (Use others → Use others) (λ u. u)
-    arg_box_speaks others (more_of-Arg part rest) = arg_speaks others part
-
-    next_args_speak : {n : _} (row : Row_of-NextArg n) → Speaks (next_args_events row) (Use (args_row numbers row))
-    next_args_speak end_of-NextArg = nothing (Unit {0}) tt
-    next_args_speak (more_of-NextArg part rest) =
-        let others : Tree = args_row numbers rest in
-        two_args (next_arg_events part) (next_args_events rest) (Use others) (Use (next_arg_before numbers others part)) (next_arg_speaks others part)
-        (next_args_speak rest)
-
-    pub next_arg_speaks : (others : Tree) (a : NextArg) → Speaks (next_arg_events a) (Use others → Use (next_arg_before numbers others a))
-    next_arg_speaks others (next_arg.FurtherArg' pos _ part) = arg_box_speaks others part
-
-    pub arg_speaks : (others : Tree) (a : Arg) → Speaks (arg_events a) (Use others → Use (arg_before numbers others a))
-    arg_speaks others (arg.Positional' pos _ value) = let s = expr_box_speaks value in (s.0, λ a u. (s.1 a, u))
-    arg_speaks others (arg.Association' pos id arrow _ value) = let s = expr_box_speaks value in (s.0, λ a u. (s.1 a, u))
-
-    expr_box_speaks : {n : _} (row : Row_of-Expr n) → Speaks (expr_box_events row) (Use (lowered_expr_box numbers row))
-    expr_box_speaks end_of-Expr = nothing (Unit {0}) tt
-    expr_box_speaks (more_of-Expr part rest) = expr_speaks part
-
-    pub expr_speaks : (x : Expr) → Speaks (expr_events x) (Use (lowered_expr numbers x))
-    expr_speaks (expr.LoneRelation' pos _ relation) = rel_box_speaks relation
-    expr_speaks (expr.And' pos _ first and _ second _ rest) =
-        chained_three pos op.And (rel_box_events first) (rel_box_events second) (operands_events rest) (lowered_rel_box numbers first)
-        (lowered_rel_box numbers second) (operands_row numbers op.And rest) (rel_box_speaks first) (rel_box_speaks second) (operands_speak op.And rest)
-    expr_speaks (expr.Or' pos _ first or _ second _ rest) =
-        chained_three pos op.Or (rel_box_events first) (rel_box_events second) (operands_events rest) (lowered_rel_box numbers first)
-        (lowered_rel_box numbers second) (operands_row numbers op.Or rest) (rel_box_speaks first) (rel_box_speaks second) (operands_speak op.Or rest)
-    expr_speaks (expr.Xor' pos _ first xor _ second _ rest) =
-        chained_three pos op.Xor (rel_box_events first) (rel_box_events second) (operands_events rest) (lowered_rel_box numbers first)
-        (lowered_rel_box numbers second) (operands_row numbers op.Xor rest) (rel_box_speaks first) (rel_box_speaks second) (operands_speak op.Xor rest)
-    expr_speaks (expr.AndThen' pos _ first and then_word _ second _ rest) =
-        chained_three pos op.AndThen (rel_box_events first) (rel_box_events second) (short_operands_events rest) (lowered_rel_box numbers first)
-        (lowered_rel_box numbers second) (short_operands_row numbers op.AndThen rest) (rel_box_speaks first) (rel_box_speaks second)
-        (short_operands_speak op.AndThen rest)
-    expr_speaks (expr.OrElse' pos _ first or otherwise _ second _ rest) =
-        chained_three pos op.OrElse (rel_box_events first) (rel_box_events second) (short_operands_events rest) (lowered_rel_box numbers first)
-        (lowered_rel_box numbers second) (short_operands_row numbers op.OrElse rest) (rel_box_speaks first) (rel_box_speaks second)
-        (short_operands_speak op.OrElse rest)
-
-    operands_speak : {n : _} (by : Operator) (row : Row_of-Operand n) → Speaks (operands_events row) (AllNext (operands_row numbers by row))
-    operands_speak by end_of-Operand = nothing (Unit {0}) tt
-    operands_speak by (more_of-Operand part rest) =
-        speaks_both (operand_events part) (operands_events rest) (Use (lowered_operand numbers by part).1) (AllNext (operands_row numbers by rest))
-        (operand_speaks by part) (operands_speak by rest)
-
-    operand_speaks : (by : Operator) (o : Operand) → Speaks (operand_events o) (Use (lowered_operand numbers by o).1)
-    operand_speaks by (operand.FurtherOperand' pos _ relation) = rel_box_speaks relation
-
-    short_operands_speak : {n : _} (by : Operator) (row : Row_of-ShortOperand n) → Speaks (short_operands_events row) (AllNext (short_operands_row numbers by row))
-    short_operands_speak by end_of-ShortOperand = nothing (Unit {0}) tt
-    short_operands_speak by (more_of-ShortOperand part rest) =
-        speaks_both (short_operand_events part) (short_operands_events rest) (Use (lowered_short_operand numbers by part).1)
-        (AllNext (short_operands_row numbers by rest)) (short_operand_speaks by part) (short_operands_speak by rest)
-
-    short_operand_speaks : (by : Operator) (o : ShortOperand) → Speaks (short_operand_events o) (Use (lowered_short_operand numbers by o).1)
-    short_operand_speaks by (short_operand.FurtherShortOperand' pos second_word _ relation) = rel_box_speaks relation
-
-    rel_box_speaks : {n : _} (row : Row_of-Rel n) → Speaks (rel_box_events row) (Use (lowered_rel_box numbers row))
-    rel_box_speaks end_of-Rel = nothing (Unit {0}) tt
-    rel_box_speaks (more_of-Rel part rest) = rel_speaks part
-
-    rel_speaks : (r : Rel) → Speaks (rel_events r) (Use (lowered_rel numbers r))
-    rel_speaks (rel.LoneSum pos operand) = sum_speaks operand
-    rel_speaks (rel.Compared' pos _ left operator operator_pos _ right) =
-        speaks_both (sum_box_events left) (sum_box_events right) (Use (lowered_sum_box numbers left)) (Use (lowered_sum_box numbers right))
-        (sum_box_speaks left) (sum_box_speaks right)
-
-    sum_box_speaks : {n : _} (row : Row_of-Sum n) → Speaks (sum_box_events row) (Use (lowered_sum_box numbers row))
-    sum_box_speaks end_of-Sum = nothing (Unit {0}) tt
-    sum_box_speaks (more_of-Sum part rest) = sum_speaks part
-
-    sum_speaks : (s : Sum) → Speaks (sum_events s) (Use (lowered_sum numbers s))
-    sum_speaks (sum.Unsigned' pos first _ rest) =
-        chained_one pos (term_events first) (next_terms_events rest) (lowered_term numbers first) (terms_row numbers rest) (term_speaks first)
-        (next_terms_speak rest)
-    sum_speaks (sum.Signed' pos sign first _ rest) =
-        chained_one pos (term_events first) (next_terms_events rest) (t.Unary pos (sign_operator sign) (lowered_term numbers first)) (terms_row numbers rest) (term_speaks first)
-        (next_terms_speak rest)
-
-    next_terms_speak : {n : _} (row : Row_of-NextTerm n) → Speaks (next_terms_events row) (AllNext (terms_row numbers row))
-    next_terms_speak end_of-NextTerm = nothing (Unit {0}) tt
-    next_terms_speak (more_of-NextTerm part rest) =
-        speaks_both (next_term_events part) (next_terms_events rest) (Use (lowered_next_term numbers part).1) (AllNext (terms_row numbers rest))
-        (next_term_speaks part) (next_terms_speak rest)
-
-    next_term_speaks : (n : NextTerm) → Speaks (next_term_events n) (Use (lowered_next_term numbers n).1)
-    next_term_speaks (next_term.FurtherTerm pos operator part) = term_speaks part
-
-    term_speaks : (x : Term) → Speaks (term_events x) (Use (lowered_term numbers x))
-    term_speaks (term.Product' pos first _ rest) =
-        chained_one pos (factor_events first) (next_factors_events rest) (lowered_factor numbers first) (factors_row numbers rest) (factor_speaks first)
-        (next_factors_speak rest)
-
-    next_factors_speak : {n : _} (row : Row_of-NextFactor n) → Speaks (next_factors_events row) (AllNext (factors_row numbers row))
-    next_factors_speak end_of-NextFactor = nothing (Unit {0}) tt
-    next_factors_speak (more_of-NextFactor part rest) =
-        speaks_both (next_factor_events part) (next_factors_events rest) (Use (lowered_next_factor numbers part).1) (AllNext (factors_row numbers rest))
-        (next_factor_speaks part) (next_factors_speak rest)
-
-    next_factor_speaks : (n : NextFactor) → Speaks (next_factor_events n) (Use (lowered_next_factor numbers n).1)
-    next_factor_speaks (next_factor.FurtherFactor pos operator part) = factor_speaks part
-
-    factor_speaks : (f : Factor) → Speaks (factor_events f) (Use (lowered_factor numbers f))
-    factor_speaks (factor.LonePrimary pos operand) = primary_speaks operand
-    factor_speaks (factor.Abs pos operand) = primary_speaks operand
-    factor_speaks (factor.Not pos operand) = primary_speaks operand
-
-    primary_speaks : (p : Primary) → Speaks (primary_events p) (Use (lowered_primary numbers p))
-    primary_speaks (primary.Named' pos _ part) = name_box_speaks part
-    primary_speaks (primary.Parenthesized' pos _ part right_paren) = expr_box_speaks part
-    primary_speaks (primary.Aggregated' pos _ part) = aggregate_box_speaks part
-    primary_speaks (primary.Allocated pos mark) = (refl, λ a. tt)
-    primary_speaks (primary.AllocatedAggregate' pos mark apostrophe _ part) = let s = aggregate_box_speaks part in (s.0, λ a. (s.1 a.1, tt))
-    primary_speaks (primary.AllocatedValue' pos mark apostrophe left_paren _ value right_paren) =
-        let s = expr_box_speaks value in (s.0, λ a. (s.1 a.1, tt))
-    primary_speaks _ = nothing (Unit {0}) tt
-
-    name_box_speaks : {n : _} (row : Row_of-Name n) → Speaks (name_box_events row) (Use (lowered_name_box numbers row))
-    name_box_speaks end_of-Name = nothing (Unit {0}) tt
-    name_box_speaks (more_of-Name part rest) = name_speaks part
-
-    aggregate_box_speaks : {n : _} (row : Row_of-Aggregate n) → Speaks (aggregate_box_events row) (Use (lowered_aggregate_box numbers row))
-    aggregate_box_speaks end_of-Aggregate = nothing (Unit {0}) tt
-    aggregate_box_speaks (more_of-Aggregate part rest) = aggregate_speaks part
-
-    aggregate_speaks : (a : Aggregate) → Speaks (aggregate_events a) (Use (lowered_aggregate numbers a))
-    aggregate_speaks (aggregate.Several' pos _ first comma _ second _ rest right_paren) =
-        let last : Tree = args_row numbers rest in
+  name_speaks_laws : ExpressionLaws (record {
+    of_name = λ n. Speaks (name_events n) (Use (lowered_name numbers n));
+    of_suffixes = λ n row. Speaks (suffixes_events row) (AllUse (lowered_suffixes numbers row));
+    of_suffix = λ s. Speaks (suffix_events s) (Use (lowered_suffix numbers s));
+    of_arg_box = λ n row. (others : Tree) → Speaks (arg_box_events row) (Use others → Use (box_before numbers others row));
+    of_next_args = λ n row. Speaks (next_args_events row) (Use (args_row numbers row));
+    of_next_arg = λ a. (others : Tree) → Speaks (next_arg_events a) (Use others → Use (next_arg_before numbers others a));
+    of_arg = λ a. (others : Tree) → Speaks (arg_events a) (Use others → Use (arg_before numbers others a));
+    of_expr_box = λ n row. Speaks (expr_box_events row) (Use (lowered_expr_box numbers row));
+    of_expr = λ x. Speaks (expr_events x) (Use (lowered_expr numbers x));
+    of_operands = λ n row. (by : Operator) → Speaks (operands_events row) (AllNext (operands_row numbers by row));
+    of_operand = λ o. (by : Operator) → Speaks (operand_events o) (Use (lowered_operand numbers by o).1);
+    of_short_operands = λ n row. (by : Operator) → Speaks (short_operands_events row) (AllNext (short_operands_row numbers by row));
+    of_short_operand = λ o. (by : Operator) → Speaks (short_operand_events o) (Use (lowered_short_operand numbers by o).1);
+    of_rel_box = λ n row. Speaks (rel_box_events row) (Use (lowered_rel_box numbers row));
+    of_rel = λ r. Speaks (rel_events r) (Use (lowered_rel numbers r));
+    of_sum_box = λ n row. Speaks (sum_box_events row) (Use (lowered_sum_box numbers row));
+    of_sum = λ s. Speaks (sum_events s) (Use (lowered_sum numbers s));
+    of_next_terms = λ n row. Speaks (next_terms_events row) (AllNext (terms_row numbers row));
+    of_next_term = λ n. Speaks (next_term_events n) (Use (lowered_next_term numbers n).1);
+    of_term = λ x. Speaks (term_events x) (Use (lowered_term numbers x));
+    of_next_factors = λ n row. Speaks (next_factors_events row) (AllNext (factors_row numbers row));
+    of_next_factor = λ n. Speaks (next_factor_events n) (Use (lowered_next_factor numbers n).1);
+    of_factor = λ f. Speaks (factor_events f) (Use (lowered_factor numbers f));
+    of_primary = λ p. Speaks (primary_events p) (Use (lowered_primary numbers p));
+    of_name_box = λ n row. Speaks (name_box_events row) (Use (lowered_name_box numbers row));
+    of_aggregate_box = λ n row. Speaks (aggregate_box_events row) (Use (lowered_aggregate_box numbers row));
+    of_aggregate = λ a. Speaks (aggregate_events a) (Use (lowered_aggregate numbers a));
+  })
+  unfolding name_events suffixes_events suffix_events arg_box_events next_args_events next_arg_events arg_events expr_box_events expr_events operands_events operand_events short_operands_events short_operand_events rel_box_events rel_events sum_box_events sum_events next_terms_events next_term_events term_events next_factors_events next_factor_events factor_events primary_events name_box_events aggregate_box_events aggregate_events lowered_name lowered_suffixes lowered_suffix box_before args_row next_arg_before arg_before lowered_expr_box lowered_expr operands_row lowered_operand short_operands_row lowered_short_operand lowered_rel_box lowered_rel lowered_sum_box lowered_sum terms_row lowered_next_term lowered_term factors_row lowered_next_factor lowered_factor lowered_primary lowered_name_box lowered_aggregate_box lowered_aggregate Uses AreAllowed
+  name_speaks_laws = record {
+    name_prefixed = λ pos first _ rest by_rest. let s = by_rest in (
+      s.0,
+      λ a. (
+        subst (λ ns. asked (last_of (number_of numbers first) ns)) (along rest) a.0,
+        listed (drop (length (selected_numbers numbers rest)) (lowered_suffixes numbers rest))
+            (dropped (length (selected_numbers numbers rest)) (lowered_suffixes numbers rest) (s.1 a.1)),
+      ),
+    );
+    suffixes_end = nothing (Unit {0}) tt;
+    suffixes_more = λ _ part rest by_part by_rest. speaks_both (suffix_events part) (suffixes_events rest) (Use (lowered_suffix numbers part)) (AllUse (lowered_suffixes numbers rest))
+        (by_part) (by_rest);
+    suffix_applied = λ pos _ first _ rest right_paren by_first by_rest. let others : Tree = args_row numbers rest in
+        two_args (arg_box_events first) (next_args_events rest) (Use others) (Use (box_before numbers others first)) (by_first others)
+        (by_rest);
+    suffix_selected = λ pos id. nothing (Unit {0}) tt;
+    suffix_dereferenced = λ pos all. nothing (Unit {0}) tt;
+    suffix_attribute = λ pos id. nothing (Unit {0}) tt;
+    suffix_range_attribute = λ pos range. nothing (Unit {0}) tt;
+    arg_box_end = λ others. nothing (Use others → Use others) (λ u. u);
+    arg_box_more = λ _ part rest by_part others. by_part others;
+    next_args_end = nothing (Unit {0}) tt;
+    next_args_more = λ _ part rest by_part by_rest. let others : Tree = args_row numbers rest in
+        two_args (next_arg_events part) (next_args_events rest) (Use others) (Use (next_arg_before numbers others part)) (by_part others)
+        (by_rest);
+    next_arg_further_arg = λ pos _ part by_part others. by_part others;
+    arg_positional = λ pos _ value by_value others. let s = by_value in (s.0, λ a u. (s.1 a, u));
+    arg_association = λ pos id arrow _ value by_value others. let s = by_value in (s.0, λ a u. (s.1 a, u));
+    expr_box_end = nothing (Unit {0}) tt;
+    expr_box_more = λ _ part rest by_part. by_part;
+    expr_lone_relation = λ pos _ relation by_relation. by_relation;
+    expr_and = λ pos _ first and _ second _ rest by_first by_second by_rest. chained_three pos op.And (rel_box_events first) (rel_box_events second) (operands_events rest) (lowered_rel_box numbers first)
+        (lowered_rel_box numbers second) (operands_row numbers op.And rest) (by_first) (by_second) (by_rest op.And);
+    expr_or = λ pos _ first or _ second _ rest by_first by_second by_rest. chained_three pos op.Or (rel_box_events first) (rel_box_events second) (operands_events rest) (lowered_rel_box numbers first)
+        (lowered_rel_box numbers second) (operands_row numbers op.Or rest) (by_first) (by_second) (by_rest op.Or);
+    expr_xor = λ pos _ first xor _ second _ rest by_first by_second by_rest. chained_three pos op.Xor (rel_box_events first) (rel_box_events second) (operands_events rest) (lowered_rel_box numbers first)
+        (lowered_rel_box numbers second) (operands_row numbers op.Xor rest) (by_first) (by_second) (by_rest op.Xor);
+    expr_and_then = λ pos _ first and then_word _ second _ rest by_first by_second by_rest. chained_three pos op.AndThen (rel_box_events first) (rel_box_events second) (short_operands_events rest) (lowered_rel_box numbers first)
+        (lowered_rel_box numbers second) (short_operands_row numbers op.AndThen rest) (by_first) (by_second)
+        (by_rest op.AndThen);
+    expr_or_else = λ pos _ first or otherwise _ second _ rest by_first by_second by_rest. chained_three pos op.OrElse (rel_box_events first) (rel_box_events second) (short_operands_events rest) (lowered_rel_box numbers first)
+        (lowered_rel_box numbers second) (short_operands_row numbers op.OrElse rest) (by_first) (by_second)
+        (by_rest op.OrElse);
+    operands_end = λ by. nothing (Unit {0}) tt;
+    operands_more = λ _ part rest by_part by_rest by. speaks_both (operand_events part) (operands_events rest) (Use (lowered_operand numbers by part).1) (AllNext (operands_row numbers by rest))
+        (by_part by) (by_rest by);
+    operand_further_operand = λ pos _ relation by_relation by. by_relation;
+    short_operands_end = λ by. nothing (Unit {0}) tt;
+    short_operands_more = λ _ part rest by_part by_rest by. speaks_both (short_operand_events part) (short_operands_events rest) (Use (lowered_short_operand numbers by part).1)
+        (AllNext (short_operands_row numbers by rest)) (by_part by) (by_rest by);
+    short_operand_further_short_operand = λ pos second_word _ relation by_relation by. by_relation;
+    rel_box_end = nothing (Unit {0}) tt;
+    rel_box_more = λ _ part rest by_part. by_part;
+    rel_lone_sum = λ pos operand by_operand. by_operand;
+    rel_compared = λ pos _ left operator operator_pos _ right by_left by_right. speaks_both (sum_box_events left) (sum_box_events right) (Use (lowered_sum_box numbers left)) (Use (lowered_sum_box numbers right))
+        (by_left) (by_right);
+    sum_box_end = nothing (Unit {0}) tt;
+    sum_box_more = λ _ part rest by_part. by_part;
+    sum_unsigned = λ pos first _ rest by_first by_rest. chained_one pos (term_events first) (next_terms_events rest) (lowered_term numbers first) (terms_row numbers rest) (by_first)
+        (by_rest);
+    sum_signed = λ pos sign first _ rest by_first by_rest. chained_one pos (term_events first) (next_terms_events rest) (t.Unary pos (sign_operator sign) (lowered_term numbers first)) (terms_row numbers rest) (by_first)
+        (by_rest);
+    next_terms_end = nothing (Unit {0}) tt;
+    next_terms_more = λ _ part rest by_part by_rest. speaks_both (next_term_events part) (next_terms_events rest) (Use (lowered_next_term numbers part).1) (AllNext (terms_row numbers rest))
+        (by_part) (by_rest);
+    next_term_further_term = λ pos operator part by_part. by_part;
+    term_product = λ pos first _ rest by_first by_rest. chained_one pos (factor_events first) (next_factors_events rest) (lowered_factor numbers first) (factors_row numbers rest) (by_first)
+        (by_rest);
+    next_factors_end = nothing (Unit {0}) tt;
+    next_factors_more = λ _ part rest by_part by_rest. speaks_both (next_factor_events part) (next_factors_events rest) (Use (lowered_next_factor numbers part).1) (AllNext (factors_row numbers rest))
+        (by_part) (by_rest);
+    next_factor_further_factor = λ pos operator part by_part. by_part;
+    factor_lone_primary = λ pos operand by_operand. by_operand;
+    factor_abs = λ pos operand by_operand. by_operand;
+    factor_not = λ pos operand by_operand. by_operand;
+    primary_named = λ pos _ part by_part. by_part;
+    primary_parenthesized = λ pos _ part right_paren by_part. by_part;
+    primary_aggregated = λ pos _ part by_part. by_part;
+    primary_allocated = λ pos mark. (refl, λ a. tt);
+    primary_allocated_aggregate = λ pos mark apostrophe _ part by_part. let s = by_part in (s.0, λ a. (s.1 a.1, tt));
+    primary_allocated_value = λ pos mark apostrophe left_paren _ value right_paren by_value. let s = by_value in (s.0, λ a. (s.1 a.1, tt));
+    primary_number = λ _ _. nothing (Unit {0}) tt;
+    primary_text = λ _ _. nothing (Unit {0}) tt;
+    primary_null = λ _. nothing (Unit {0}) tt;
+    name_box_end = nothing (Unit {0}) tt;
+    name_box_more = λ _ part rest by_part. by_part;
+    aggregate_box_end = nothing (Unit {0}) tt;
+    aggregate_box_more = λ _ part rest by_part. by_part;
+    aggregate_several = λ pos _ first comma _ second _ rest right_paren by_first by_second by_rest. let last : Tree = args_row numbers rest in
         let others : Tree = box_before numbers last second in
         two_args (arg_box_events first) (arg_box_events second ++ next_args_events rest) (Use others) (Use (box_before numbers others first))
-        (arg_box_speaks others first)
-        (two_args (arg_box_events second) (next_args_events rest) (Use last) (Use others) (arg_box_speaks last second) (next_args_speak rest))
-    aggregate_speaks (aggregate.Single' pos id arrow _ value right_paren) = let s = expr_box_speaks value in (s.0, λ a. (s.1 a, tt))
-    aggregate_speaks (aggregate.Others' pos others arrow _ value right_paren) = expr_box_speaks value
+        (by_first others)
+        (two_args (arg_box_events second) (next_args_events rest) (Use last) (Use others) (by_second last) (by_rest));
+    aggregate_single = λ pos id arrow _ value right_paren by_value. let s = by_value in (s.0, λ a. (s.1 a, tt));
+    aggregate_others = λ pos others arrow _ value right_paren by_value. by_value;
+  }
+
+  pub name_speaks : (n : Name) → Speaks (name_events n) (Use (lowered_name numbers n))
+  name_speaks = on_name name_speaks_laws
+
+  pub next_arg_speaks : (others : Tree) (a : NextArg) → Speaks (next_arg_events a) (Use others → Use (next_arg_before numbers others a))
+  next_arg_speaks x y = on_next_arg name_speaks_laws y x
+
+  pub arg_speaks : (others : Tree) (a : Arg) → Speaks (arg_events a) (Use others → Use (arg_before numbers others a))
+  arg_speaks x y = on_arg name_speaks_laws y x
+
+  pub expr_speaks : (x : Expr) → Speaks (expr_events x) (Use (lowered_expr numbers x))
+  expr_speaks = on_expr name_speaks_laws
 
   -- ---- choices, of which nothing is asked
 
