@@ -1,3 +1,4 @@
+pub mod StatementCases
 pub mod ExpressionCases
 pub mod TypedCases
 pub mod Cases

@@ -25,6 +25,7 @@ use Rattle.ada_tree.specs.declared.unit.SubprogramBody.{SubprogramBody}
 use Rattle.machine.specs.resolved_tree.Trees.{Code, code_list}
 use Rattle.expression_lowering.specs.LoweredExpressions.{Numbers}
 use Rattle.tree_lowering.specs.Lowered.{lowered_subtype, lowered_type, lowered_declaration, item_before, before_all, lowered_items, lowered_simple, lowered_stmts, lowered_stmt_box, stmts_row, lowered_stmt, lowered_stmts_box, elsifs_row, lowered_elsif, lowered_when_box, whens_row, lowered_when, lowered_subprogram, decl_before, part_before, lowered_decls, lowered_private, lowered_package, lowered_package_body, lowered_unit, lowered_files}
+use Rattle.settled_types.proofs.StatementCases.{StatementLaws, on_statements}
 use Rattle.settled_types.specs.NamedFiles.Formals.{IsFrontApart, AreFormalsApart}
 use Rattle.settled_types.specs.AnonymousTypes.Fronts.{AllFronts}
 
@@ -87,54 +88,54 @@ module _ (numbers : Numbers) where
   simple_fronts (stmt.ReturnValue pos value semicolon) = tt
   simple_fronts _ = tt
 
-  mutual
-    unfolding lowered_stmts lowered_stmt_box stmts_row lowered_stmt lowered_stmts_box elsifs_row lowered_elsif lowered_when_box whens_row lowered_when AllFronts
+  stmts_fronts_laws : StatementLaws (record {
+    of_statements = λ tree. All (lowered_stmts numbers tree);
+    of_statement_box = λ n row. All (lowered_stmt_box numbers row);
+    of_statement_row = λ n row. AllByRecursion All (stmts_row numbers row);
+    of_statement = λ tree. All (lowered_stmt numbers tree);
+    of_statements_box = λ n row. All (lowered_stmts_box numbers row);
+    of_branches = λ n row. AllByRecursion All (elsifs_row numbers row);
+    of_branch = λ tree. All (lowered_elsif numbers tree);
+    of_alternative_box = λ n row. All (lowered_when_box numbers row);
+    of_alternatives = λ n row. AllByRecursion All (whens_row numbers row);
+    of_alternative = λ tree. All (lowered_when numbers tree);
+  })
+  unfolding lowered_stmts lowered_stmt_box stmts_row lowered_stmt lowered_stmts_box elsifs_row lowered_elsif lowered_when_box whens_row lowered_when AllFronts
+  stmts_fronts_laws = record {
+    statements_sequence = λ pos _ first _ rest by_first by_rest. (by_first, listed (stmts_row numbers rest) (by_rest));
+    statement_box_end = tt;
+    statement_box_more = λ _ part rest by_part. by_part;
+    statement_row_end = tt;
+    statement_row_more = λ _ part rest by_part by_rest. (by_part, by_rest);
+    statement_null = λ pos semicolon. simple_fronts (stmt.Null pos semicolon);
+    statement_assign = λ pos target becomes value semicolon. simple_fronts (stmt.Assign pos target becomes value semicolon);
+    statement_call = λ pos called semicolon. simple_fronts (stmt.Call pos called semicolon);
+    statement_exit = λ pos semicolon. simple_fronts (stmt.Exit pos semicolon);
+    statement_exit_when = λ pos when_word condition semicolon. simple_fronts (stmt.ExitWhen pos when_word condition semicolon);
+    statement_return = λ pos semicolon. simple_fronts (stmt.Return pos semicolon);
+    statement_return_value = λ pos value semicolon. simple_fronts (stmt.ReturnValue pos value semicolon);
+    statement_if = λ pos condition then_word _ body _ elsifs end end_if semicolon by_body by_elsifs. ((by_body, listed (elsifs_row numbers elsifs) (by_elsifs)), tt);
+    statement_if_else = λ pos condition then_word _ body _ elsifs otherwise _ other end end_if semicolon by_body by_elsifs by_other. ((by_body, listed (elsifs_row numbers elsifs) (by_elsifs)), by_other);
+    statement_case = λ pos selecting is _ first _ rest end end_case semicolon by_first by_rest. (by_first, listed (whens_row numbers rest) (by_rest));
+    statement_loop = λ pos _ body end end_loop semicolon by_body. by_body;
+    statement_while = λ pos condition loop_word _ body end end_loop semicolon by_body. by_body;
+    statement_for = λ pos parameter in_word reverse steps loop_word _ body end end_loop semicolon by_body. by_body;
+    statement_block = λ pos _ body end semicolon by_body. (tt, by_body);
+    statement_declare_block = λ pos items begin _ body end semicolon by_body. (items_fronts items, by_body);
+    statements_box_end = tt;
+    statements_box_more = λ _ part rest by_part. by_part;
+    branches_end = tt;
+    branches_more = λ _ part rest by_part by_rest. (by_part, by_rest);
+    branch_branch = λ pos condition then_word _ body by_body. by_body;
+    alternative_box_end = tt;
+    alternative_box_more = λ _ part rest by_part. by_part;
+    alternatives_end = tt;
+    alternatives_more = λ _ part rest by_part by_rest. (by_part, by_rest);
+    alternative_alternative = λ pos first rest arrow _ body by_body. by_body;
+  }
 
-    stmts_fronts : (tree : Stmts) → All (lowered_stmts numbers tree)
-    stmts_fronts (stmts.Sequence' pos _ first _ rest) = (stmt_box_fronts first, listed (stmts_row numbers rest) (row_fronts rest))
-
-    stmt_box_fronts : {n : _} (row : Row_of-Stmt n) → All (lowered_stmt_box numbers row)
-    stmt_box_fronts end_of-Stmt = tt
-    stmt_box_fronts (more_of-Stmt part rest) = stmt_fronts part
-
-    row_fronts : {n : _} (row : Row_of-Stmt n) → AllByRecursion All (stmts_row numbers row)
-    row_fronts end_of-Stmt = tt
-    row_fronts (more_of-Stmt part rest) = (stmt_fronts part, row_fronts rest)
-
-    stmt_fronts : (tree : Stmt) → All (lowered_stmt numbers tree)
-    stmt_fronts (stmt.If' pos condition then_word _ body _ elsifs end end_if semicolon) =
-        ((stmts_box_fronts body, listed (elsifs_row numbers elsifs) (elsifs_fronts elsifs)), tt)
-    stmt_fronts (stmt.IfElse' pos condition then_word _ body _ elsifs otherwise _ other end end_if semicolon) =
-        ((stmts_box_fronts body, listed (elsifs_row numbers elsifs) (elsifs_fronts elsifs)), stmts_box_fronts other)
-    stmt_fronts (stmt.Case' pos selecting is _ first _ rest end end_case semicolon) = (when_box_fronts first, listed (whens_row numbers rest) (whens_fronts rest))
-    stmt_fronts (stmt.Loop' pos _ body end end_loop semicolon) = stmts_box_fronts body
-    stmt_fronts (stmt.While' pos condition loop_word _ body end end_loop semicolon) = stmts_box_fronts body
-    stmt_fronts (stmt.For' pos parameter in_word reverse steps loop_word _ body end end_loop semicolon) = stmts_box_fronts body
-    stmt_fronts (stmt.Block' pos _ body end semicolon) = (tt, stmts_box_fronts body)
-    stmt_fronts (stmt.DeclareBlock' pos items begin _ body end semicolon) = (items_fronts items, stmts_box_fronts body)
-    stmt_fronts simple = simple_fronts simple
-
-    stmts_box_fronts : {n : _} (row : Row_of-Stmts n) → All (lowered_stmts_box numbers row)
-    stmts_box_fronts end_of-Stmts = tt
-    stmts_box_fronts (more_of-Stmts part rest) = stmts_fronts part
-
-    elsifs_fronts : {n : _} (row : Row_of-Elsif n) → AllByRecursion All (elsifs_row numbers row)
-    elsifs_fronts end_of-Elsif = tt
-    elsifs_fronts (more_of-Elsif part rest) = (elsif_fronts part, elsifs_fronts rest)
-
-    elsif_fronts : (tree : Elsif) → All (lowered_elsif numbers tree)
-    elsif_fronts (branch.Branch' pos condition then_word _ body) = stmts_box_fronts body
-
-    when_box_fronts : {n : _} (row : Row_of-When n) → All (lowered_when_box numbers row)
-    when_box_fronts end_of-When = tt
-    when_box_fronts (more_of-When part rest) = when_fronts part
-
-    whens_fronts : {n : _} (row : Row_of-When n) → AllByRecursion All (whens_row numbers row)
-    whens_fronts end_of-When = tt
-    whens_fronts (more_of-When part rest) = (when_fronts part, whens_fronts rest)
-
-    when_fronts : (tree : When) → All (lowered_when numbers tree)
-    when_fronts (alternative.Alternative' pos first rest arrow _ body) = stmts_box_fronts body
+  stmts_fronts : (tree : Stmts) → All (lowered_stmts numbers tree)
+  stmts_fronts = on_statements stmts_fronts_laws
 
   -- ---- units
 

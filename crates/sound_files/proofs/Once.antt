@@ -56,6 +56,7 @@ use Rattle.tree_lowering.specs.Lowered.{declared_next, declared_all, lowered_sub
 use Rattle.typing_steps.specs.Programs.{program_of}
 use Rattle.machine.specs.type_definitions.declared.table.Known.{Known as TypesKnown}
 use Rattle.machine.specs.typed_tree.Programs.{DeclaredObject, program_objects}
+use Rattle.settled_types.proofs.StatementCases.{StatementLaws, on_statements}
 use Rattle.settled_types.specs.OrderlyFiles.Apart.{AreApart}
 use Rattle.settled_types.specs.OrderlyFiles.Numbered.{AreNumbered}
 use Rattle.settled_types.proofs.OrderlyFiles.Declares.{numbered_both, behind_both}
@@ -250,95 +251,84 @@ module _ (count : ℕ) (numbers : List Identified) where
   simple_none (stmt.ReturnValue pos value semicolon) = refl
   simple_none _ = refl
 
-  mutual
-    unfolding lowered_stmts lowered_stmt_box stmts_row lowered_stmt lowered_stmts_box elsifs_row lowered_elsif lowered_when_box whens_row lowered_when stmts_events stmt_box_events stmt_list_events stmt_events stmts_box_events elsifs_events elsif_events when_box_events whens_events when_events
-
-    stmts_fresh : (tree : Stmts) → Fresh (stmts_events tree) (object_numbers (lowered_stmts numbers tree))
-    stmts_fresh (stmts.Sequence' pos _ first _ rest) =
-        both (stmt_box_events first) (stmt_list_events rest) (object_numbers (lowered_stmt_box numbers first)) (object_numbers (code_list (stmts_row numbers rest)))
-        (stmt_box_fresh first) (row_fresh rest)
-
-    stmt_box_fresh : {n : _} (row : Row_of-Stmt n) → Fresh (stmt_box_events row) (object_numbers (lowered_stmt_box numbers row))
-    stmt_box_fresh end_of-Stmt = none []
-    stmt_box_fresh (more_of-Stmt part rest) = stmt_fresh part
-
-    row_fresh : {n : _} (row : Row_of-Stmt n) → Fresh (stmt_list_events row) (object_numbers (code_list (stmts_row numbers row)))
-    row_fresh end_of-Stmt = none []
-    row_fresh (more_of-Stmt part rest) =
-        both (stmt_events part) (stmt_list_events rest) (object_numbers (lowered_stmt numbers part)) (object_numbers (code_list (stmts_row numbers rest)))
-        (stmt_fresh part) (row_fresh rest)
-
-    stmt_fresh : (tree : Stmt) → Fresh (stmt_events tree) (object_numbers (lowered_stmt numbers tree))
-    stmt_fresh (stmt.If' pos condition then_word _ body _ elsifs end end_if semicolon) =
-        let ns : List ℕ = object_numbers (lowered_stmts_box numbers body) in
+  stmts_fresh_laws : StatementLaws (record {
+    of_statements = λ tree. Fresh (stmts_events tree) (object_numbers (lowered_stmts numbers tree));
+    of_statement_box = λ n row. Fresh (stmt_box_events row) (object_numbers (lowered_stmt_box numbers row));
+    of_statement_row = λ n row. Fresh (stmt_list_events row) (object_numbers (code_list (stmts_row numbers row)));
+    of_statement = λ tree. Fresh (stmt_events tree) (object_numbers (lowered_stmt numbers tree));
+    of_statements_box = λ n row. Fresh (stmts_box_events row) (object_numbers (lowered_stmts_box numbers row));
+    of_branches = λ n row. Fresh (elsifs_events row) (object_numbers (code_list (elsifs_row numbers row)));
+    of_branch = λ tree. Fresh (elsif_events tree) (object_numbers (lowered_elsif numbers tree));
+    of_alternative_box = λ n row. Fresh (when_box_events row) (object_numbers (lowered_when_box numbers row));
+    of_alternatives = λ n row. Fresh (whens_events row) (object_numbers (code_list (whens_row numbers row)));
+    of_alternative = λ tree. Fresh (when_events tree) (object_numbers (lowered_when numbers tree));
+  })
+  unfolding lowered_stmts lowered_stmt_box stmts_row lowered_stmt lowered_stmts_box elsifs_row lowered_elsif lowered_when_box whens_row lowered_when stmts_events stmt_box_events stmt_list_events stmt_events stmts_box_events elsifs_events elsif_events when_box_events whens_events when_events
+  stmts_fresh_laws = record {
+    statements_sequence = λ pos _ first _ rest by_first by_rest. both (stmt_box_events first) (stmt_list_events rest) (object_numbers (lowered_stmt_box numbers first)) (object_numbers (code_list (stmts_row numbers rest)))
+        (by_first) (by_rest);
+    statement_box_end = none [];
+    statement_box_more = λ _ part rest by_part. by_part;
+    statement_row_end = none [];
+    statement_row_more = λ _ part rest by_part by_rest. both (stmt_events part) (stmt_list_events rest) (object_numbers (lowered_stmt numbers part)) (object_numbers (code_list (stmts_row numbers rest)))
+        (by_part) (by_rest);
+    statement_null = λ pos semicolon. subst (Fresh (stmt_events (stmt.Null pos semicolon))) (sym (simple_none (stmt.Null pos semicolon))) (none (stmt_events (stmt.Null pos semicolon)));
+    statement_assign = λ pos target becomes value semicolon. subst (Fresh (stmt_events (stmt.Assign pos target becomes value semicolon))) (sym (simple_none (stmt.Assign pos target becomes value semicolon))) (none (stmt_events (stmt.Assign pos target becomes value semicolon)));
+    statement_call = λ pos called semicolon. subst (Fresh (stmt_events (stmt.Call pos called semicolon))) (sym (simple_none (stmt.Call pos called semicolon))) (none (stmt_events (stmt.Call pos called semicolon)));
+    statement_exit = λ pos semicolon. subst (Fresh (stmt_events (stmt.Exit pos semicolon))) (sym (simple_none (stmt.Exit pos semicolon))) (none (stmt_events (stmt.Exit pos semicolon)));
+    statement_exit_when = λ pos when_word condition semicolon. subst (Fresh (stmt_events (stmt.ExitWhen pos when_word condition semicolon))) (sym (simple_none (stmt.ExitWhen pos when_word condition semicolon))) (none (stmt_events (stmt.ExitWhen pos when_word condition semicolon)));
+    statement_return = λ pos semicolon. subst (Fresh (stmt_events (stmt.Return pos semicolon))) (sym (simple_none (stmt.Return pos semicolon))) (none (stmt_events (stmt.Return pos semicolon)));
+    statement_return_value = λ pos value semicolon. subst (Fresh (stmt_events (stmt.ReturnValue pos value semicolon))) (sym (simple_none (stmt.ReturnValue pos value semicolon))) (none (stmt_events (stmt.ReturnValue pos value semicolon)));
+    statement_if = λ pos condition then_word _ body _ elsifs end end_if semicolon by_body by_elsifs. let ns : List ℕ = object_numbers (lowered_stmts_box numbers body) in
         let ms : List ℕ = object_numbers (code_list (elsifs_row numbers elsifs)) in
         let xs : List Event = stmts_box_events body ++ elsifs_events elsifs in
         after (expr_events condition) xs ((ns ++ ms) ++ [])
-        (subst (Fresh xs) (sym (append_nothing (ns ++ ms))) (both (stmts_box_events body) (elsifs_events elsifs) ns ms (stmts_box_fresh body) (elsifs_fresh elsifs)))
-    stmt_fresh (stmt.IfElse' pos condition then_word _ body _ elsifs otherwise _ other end end_if semicolon) =
-        let ns : List ℕ = object_numbers (lowered_stmts_box numbers body) in
+        (subst (Fresh xs) (sym (append_nothing (ns ++ ms))) (both (stmts_box_events body) (elsifs_events elsifs) ns ms (by_body) (by_elsifs)));
+    statement_if_else = λ pos condition then_word _ body _ elsifs otherwise _ other end end_if semicolon by_body by_elsifs by_other. let ns : List ℕ = object_numbers (lowered_stmts_box numbers body) in
         let ms : List ℕ = object_numbers (code_list (elsifs_row numbers elsifs)) in
         let os : List ℕ = object_numbers (lowered_stmts_box numbers other) in
         let ys : List Event = elsifs_events elsifs ++ stmts_box_events other in
         let xs : List Event = stmts_box_events body ++ ys in
         after (expr_events condition) xs ((ns ++ ms) ++ os)
         (subst (Fresh xs) (sym (append_assoc ns ms os))
-        (both (stmts_box_events body) ys ns (ms ++ os) (stmts_box_fresh body)
-        (both (elsifs_events elsifs) (stmts_box_events other) ms os (elsifs_fresh elsifs) (stmts_box_fresh other))))
-    stmt_fresh (stmt.Case' pos selecting is _ first _ rest end end_case semicolon) =
-        let ns : List ℕ = object_numbers (lowered_when_box numbers first) in
+        (both (stmts_box_events body) ys ns (ms ++ os) (by_body)
+        (both (elsifs_events elsifs) (stmts_box_events other) ms os (by_elsifs) (by_other))));
+    statement_case = λ pos selecting is _ first _ rest end end_case semicolon by_first by_rest. let ns : List ℕ = object_numbers (lowered_when_box numbers first) in
         let ms : List ℕ = object_numbers (code_list (whens_row numbers rest)) in
         after (expr_events selecting) (when_box_events first ++ whens_events rest) (ns ++ ms)
-        (both (when_box_events first) (whens_events rest) ns ms (when_box_fresh first) (whens_fresh rest))
-    stmt_fresh (stmt.Loop' pos _ body end end_loop semicolon) = stmts_box_fresh body
-    stmt_fresh (stmt.While' pos condition loop_word _ body end end_loop semicolon) =
-        after (expr_events condition) (stmts_box_events body) (object_numbers (lowered_stmts_box numbers body)) (stmts_box_fresh body)
-    stmt_fresh (stmt.For' pos parameter in_word reverse steps loop_word _ body end end_loop semicolon) =
-        let ns : List ℕ = object_numbers (lowered_stmts_box numbers body) in
+        (both (when_box_events first) (whens_events rest) ns ms (by_first) (by_rest));
+    statement_loop = λ pos _ body end end_loop semicolon by_body. by_body;
+    statement_while = λ pos condition loop_word _ body end end_loop semicolon by_body. after (expr_events condition) (stmts_box_events body) (object_numbers (lowered_stmts_box numbers body)) (by_body);
+    statement_for = λ pos parameter in_word reverse steps loop_word _ body end end_loop semicolon by_body. let ns : List ℕ = object_numbers (lowered_stmts_box numbers body) in
         both (parameter_events parameter steps) (stmts_box_events body ++ e.RegionCloses ∷ []) (number_of numbers parameter ∷ []) ns
         (after (e.RegionOpens ∷ []) (declares form.LoopParameter parameter ∷ (range_events steps ++ e.DeclarationsEnd ∷ [])) (number_of numbers parameter ∷ [])
         (before (declares form.LoopParameter parameter ∷ []) (range_events steps ++ e.DeclarationsEnd ∷ []) (number_of numbers parameter ∷ [])
         (one form.LoopParameter no_parameter parameter)))
-        (before (stmts_box_events body) (e.RegionCloses ∷ []) ns (stmts_box_fresh body))
-    stmt_fresh (stmt.Block' pos _ body end semicolon) =
-        let ns : List ℕ = object_numbers (lowered_stmts_box numbers body) in
-        after (e.RegionOpens ∷ []) (stmts_box_events body ++ e.RegionCloses ∷ []) ns (before (stmts_box_events body) (e.RegionCloses ∷ []) ns (stmts_box_fresh body))
-    stmt_fresh (stmt.DeclareBlock' pos items begin _ body end semicolon) =
-        let ns : List ℕ = object_numbers (lowered_stmts_box numbers body) in
+        (before (stmts_box_events body) (e.RegionCloses ∷ []) ns (by_body));
+    statement_block = λ pos _ body end semicolon by_body. let ns : List ℕ = object_numbers (lowered_stmts_box numbers body) in
+        after (e.RegionOpens ∷ []) (stmts_box_events body ++ e.RegionCloses ∷ []) ns (before (stmts_box_events body) (e.RegionCloses ∷ []) ns (by_body));
+    statement_declare_block = λ pos items begin _ body end semicolon by_body. let ns : List ℕ = object_numbers (lowered_stmts_box numbers body) in
         both (block_events items) (stmts_box_events body ++ e.RegionCloses ∷ []) (object_numbers (lowered_items numbers items)) ns
         (after (e.RegionOpens ∷ []) (flat_map item_events items) (object_numbers (lowered_items numbers items)) (items_fresh items))
-        (before (stmts_box_events body) (e.RegionCloses ∷ []) ns (stmts_box_fresh body))
-    stmt_fresh simple = subst (Fresh (stmt_events simple)) (sym (simple_none simple)) (none (stmt_events simple))
-
-    stmts_box_fresh : {n : _} (row : Row_of-Stmts n) → Fresh (stmts_box_events row) (object_numbers (lowered_stmts_box numbers row))
-    stmts_box_fresh end_of-Stmts = none []
-    stmts_box_fresh (more_of-Stmts part rest) = stmts_fresh part
-
-    elsifs_fresh : {n : _} (row : Row_of-Elsif n) → Fresh (elsifs_events row) (object_numbers (code_list (elsifs_row numbers row)))
-    elsifs_fresh end_of-Elsif = none []
-    elsifs_fresh (more_of-Elsif part rest) =
-        both (elsif_events part) (elsifs_events rest) (object_numbers (lowered_elsif numbers part)) (object_numbers (code_list (elsifs_row numbers rest)))
-        (elsif_fresh part) (elsifs_fresh rest)
-
-    elsif_fresh : (tree : Elsif) → Fresh (elsif_events tree) (object_numbers (lowered_elsif numbers tree))
-    elsif_fresh (branch.Branch' pos condition then_word _ body) =
-        after (expr_events condition) (stmts_box_events body) (object_numbers (lowered_stmts_box numbers body)) (stmts_box_fresh body)
-
-    when_box_fresh : {n : _} (row : Row_of-When n) → Fresh (when_box_events row) (object_numbers (lowered_when_box numbers row))
-    when_box_fresh end_of-When = none []
-    when_box_fresh (more_of-When part rest) = when_fresh part
-
-    whens_fresh : {n : _} (row : Row_of-When n) → Fresh (whens_events row) (object_numbers (code_list (whens_row numbers row)))
-    whens_fresh end_of-When = none []
-    whens_fresh (more_of-When part rest) =
-        both (when_events part) (whens_events rest) (object_numbers (lowered_when numbers part)) (object_numbers (code_list (whens_row numbers rest)))
-        (when_fresh part) (whens_fresh rest)
-
-    when_fresh : (tree : When) → Fresh (when_events tree) (object_numbers (lowered_when numbers tree))
-    when_fresh (alternative.Alternative' pos first rest arrow _ body) =
-        let ns : List ℕ = object_numbers (lowered_stmts_box numbers body) in
+        (before (stmts_box_events body) (e.RegionCloses ∷ []) ns (by_body));
+    statements_box_end = none [];
+    statements_box_more = λ _ part rest by_part. by_part;
+    branches_end = none [];
+    branches_more = λ _ part rest by_part by_rest. both (elsif_events part) (elsifs_events rest) (object_numbers (lowered_elsif numbers part)) (object_numbers (code_list (elsifs_row numbers rest)))
+        (by_part) (by_rest);
+    branch_branch = λ pos condition then_word _ body by_body. after (expr_events condition) (stmts_box_events body) (object_numbers (lowered_stmts_box numbers body)) (by_body);
+    alternative_box_end = none [];
+    alternative_box_more = λ _ part rest by_part. by_part;
+    alternatives_end = none [];
+    alternatives_more = λ _ part rest by_part by_rest. both (when_events part) (whens_events rest) (object_numbers (lowered_when numbers part)) (object_numbers (code_list (whens_row numbers rest)))
+        (by_part) (by_rest);
+    alternative_alternative = λ pos first rest arrow _ body by_body. let ns : List ℕ = object_numbers (lowered_stmts_box numbers body) in
         after (choice_events first) (flat_map next_choice_events rest ++ stmts_box_events body) ns
-        (after (flat_map next_choice_events rest) (stmts_box_events body) ns (stmts_box_fresh body))
+        (after (flat_map next_choice_events rest) (stmts_box_events body) ns (by_body));
+  }
+
+  stmts_fresh : (tree : Stmts) → Fresh (stmts_events tree) (object_numbers (lowered_stmts numbers tree))
+  stmts_fresh = on_statements stmts_fresh_laws
 
   -- ---- subprograms
 

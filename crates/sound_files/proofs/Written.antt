@@ -36,6 +36,7 @@ use Rattle.machine.specs.type_definitions.Statements.{condition, coverage, type_
 use Rattle.machine.specs.type_definitions.Gathered.{declared_number, in_hidden}
 use Rattle.machine.specs.type_definitions.Declarations.{code_faults, alternatives_faults, alternative_faults, body_faults, in_body, choices_of, choices_faults, selector_faults, is_last}
 use Rattle.machine.specs.resolved_tree.Trees.{code_items}
+use Rattle.settled_types.proofs.StatementCases.{StatementLaws, on_statements}
 use Rattle.settled_types.specs.NamedFiles.Library.{is_procedure_spec, is_no_function}
 use Rattle.settled_types.specs.OrderLaws.Written.{is_declaration, are_declarations, are_statements, is_statement, are_branches, is_branch, are_alternatives, is_alternative, is_body, are_parts, is_procedure, is_unit}
 use Rattle.settled_types.proofs.OrderLaws.Mains.{nothing_left, nothing_right, demanded}
@@ -158,67 +159,61 @@ module _ (numbers : Numbers) where
   simple_written (stmt.ReturnValue pos value semicolon) = refl
   simple_written _ = refl
 
-  mutual
-    unfolding are_statements is_statement are_branches is_branch are_alternatives is_alternative lowered_stmts lowered_stmt_box stmts_row lowered_stmt lowered_stmts_box elsifs_row lowered_elsif lowered_when_box whens_row lowered_when
-
-    stmts_written : (tree : Stmts) → are_statements true (lowered_stmts numbers tree) ≡ true
-    stmts_written (stmts.Sequence' pos _ first _ rest) =
-        both (is_statement true (lowered_stmt_box numbers first)) (are_statements true (code_list (stmts_row numbers rest))) (stmt_box_written first)
-        (list_statements (stmts_row numbers rest) (row_written rest))
-
-    stmt_box_written : {n : _} (row : Row_of-Stmt n) → is_statement true (lowered_stmt_box numbers row) ≡ true
-    stmt_box_written end_of-Stmt = refl
-    stmt_box_written (more_of-Stmt part rest) = stmt_written part
-
-    row_written : {n : _} (row : Row_of-Stmt n) → all_statements (stmts_row numbers row) ≡ true
-    row_written end_of-Stmt = refl
-    row_written (more_of-Stmt part rest) =
-        both (is_statement true (lowered_stmt numbers part)) (all_statements (stmts_row numbers rest)) (stmt_written part) (row_written rest)
-
-    stmt_written : (tree : Stmt) → is_statement true (lowered_stmt numbers tree) ≡ true
-    stmt_written (stmt.If' pos condition then_word _ body _ elsifs end end_if semicolon) =
-        both (are_statements true (lowered_stmts_box numbers body) && are_branches true (code_list (elsifs_row numbers elsifs))) true
-        (both (are_statements true (lowered_stmts_box numbers body)) (are_branches true (code_list (elsifs_row numbers elsifs))) (stmts_box_written body)
-        (list_branches (elsifs_row numbers elsifs) (elsifs_written elsifs))) refl
-    stmt_written (stmt.IfElse' pos condition then_word _ body _ elsifs otherwise _ other end end_if semicolon) =
-        both (are_statements true (lowered_stmts_box numbers body) && are_branches true (code_list (elsifs_row numbers elsifs)))
+  stmts_written_laws : StatementLaws (record {
+    of_statements = λ tree. are_statements true (lowered_stmts numbers tree) ≡ true;
+    of_statement_box = λ n row. is_statement true (lowered_stmt_box numbers row) ≡ true;
+    of_statement_row = λ n row. all_statements (stmts_row numbers row) ≡ true;
+    of_statement = λ tree. is_statement true (lowered_stmt numbers tree) ≡ true;
+    of_statements_box = λ n row. are_statements true (lowered_stmts_box numbers row) ≡ true;
+    of_branches = λ n row. all_branches (elsifs_row numbers row) ≡ true;
+    of_branch = λ tree. is_branch true (lowered_elsif numbers tree) ≡ true;
+    of_alternative_box = λ n row. is_alternative true (lowered_when_box numbers row) ≡ true;
+    of_alternatives = λ n row. all_alternatives (whens_row numbers row) ≡ true;
+    of_alternative = λ tree. is_alternative true (lowered_when numbers tree) ≡ true;
+  })
+  unfolding are_statements is_statement are_branches is_branch are_alternatives is_alternative lowered_stmts lowered_stmt_box stmts_row lowered_stmt lowered_stmts_box elsifs_row lowered_elsif lowered_when_box whens_row lowered_when
+  stmts_written_laws = record {
+    statements_sequence = λ pos _ first _ rest by_first by_rest. both (is_statement true (lowered_stmt_box numbers first)) (are_statements true (code_list (stmts_row numbers rest))) (by_first)
+        (list_statements (stmts_row numbers rest) (by_rest));
+    statement_box_end = refl;
+    statement_box_more = λ _ part rest by_part. by_part;
+    statement_row_end = refl;
+    statement_row_more = λ _ part rest by_part by_rest. both (is_statement true (lowered_stmt numbers part)) (all_statements (stmts_row numbers rest)) (by_part) (by_rest);
+    statement_null = λ pos semicolon. simple_written (stmt.Null pos semicolon);
+    statement_assign = λ pos target becomes value semicolon. simple_written (stmt.Assign pos target becomes value semicolon);
+    statement_call = λ pos called semicolon. simple_written (stmt.Call pos called semicolon);
+    statement_exit = λ pos semicolon. simple_written (stmt.Exit pos semicolon);
+    statement_exit_when = λ pos when_word condition semicolon. simple_written (stmt.ExitWhen pos when_word condition semicolon);
+    statement_return = λ pos semicolon. simple_written (stmt.Return pos semicolon);
+    statement_return_value = λ pos value semicolon. simple_written (stmt.ReturnValue pos value semicolon);
+    statement_if = λ pos condition then_word _ body _ elsifs end end_if semicolon by_body by_elsifs. both (are_statements true (lowered_stmts_box numbers body) && are_branches true (code_list (elsifs_row numbers elsifs))) true
+        (both (are_statements true (lowered_stmts_box numbers body)) (are_branches true (code_list (elsifs_row numbers elsifs))) (by_body)
+        (list_branches (elsifs_row numbers elsifs) (by_elsifs))) refl;
+    statement_if_else = λ pos condition then_word _ body _ elsifs otherwise _ other end end_if semicolon by_body by_elsifs by_other. both (are_statements true (lowered_stmts_box numbers body) && are_branches true (code_list (elsifs_row numbers elsifs)))
         (are_statements true (lowered_stmts_box numbers other))
-        (both (are_statements true (lowered_stmts_box numbers body)) (are_branches true (code_list (elsifs_row numbers elsifs))) (stmts_box_written body)
-        (list_branches (elsifs_row numbers elsifs) (elsifs_written elsifs))) (stmts_box_written other)
-    stmt_written (stmt.Case' pos selecting is _ first _ rest end end_case semicolon) =
-        both (is_alternative true (lowered_when_box numbers first)) (are_alternatives true (code_list (whens_row numbers rest))) (when_box_written first)
-        (list_alternatives (whens_row numbers rest) (whens_written rest))
-    stmt_written (stmt.Loop' pos _ body end end_loop semicolon) = stmts_box_written body
-    stmt_written (stmt.While' pos condition loop_word _ body end end_loop semicolon) = stmts_box_written body
-    stmt_written (stmt.For' pos parameter in_word reverse steps loop_word _ body end end_loop semicolon) = stmts_box_written body
-    stmt_written (stmt.Block' pos _ body end semicolon) = both (are_declarations NoMore) (are_statements true (lowered_stmts_box numbers body)) no_items (stmts_box_written body)
-    stmt_written (stmt.DeclareBlock' pos items begin _ body end semicolon) =
-        both (are_declarations (lowered_items numbers items)) (are_statements true (lowered_stmts_box numbers body)) (items_written items) (stmts_box_written body)
-    stmt_written simple = simple_written simple
+        (both (are_statements true (lowered_stmts_box numbers body)) (are_branches true (code_list (elsifs_row numbers elsifs))) (by_body)
+        (list_branches (elsifs_row numbers elsifs) (by_elsifs))) (by_other);
+    statement_case = λ pos selecting is _ first _ rest end end_case semicolon by_first by_rest. both (is_alternative true (lowered_when_box numbers first)) (are_alternatives true (code_list (whens_row numbers rest))) (by_first)
+        (list_alternatives (whens_row numbers rest) (by_rest));
+    statement_loop = λ pos _ body end end_loop semicolon by_body. by_body;
+    statement_while = λ pos condition loop_word _ body end end_loop semicolon by_body. by_body;
+    statement_for = λ pos parameter in_word reverse steps loop_word _ body end end_loop semicolon by_body. by_body;
+    statement_block = λ pos _ body end semicolon by_body. both (are_declarations NoMore) (are_statements true (lowered_stmts_box numbers body)) no_items (by_body);
+    statement_declare_block = λ pos items begin _ body end semicolon by_body. both (are_declarations (lowered_items numbers items)) (are_statements true (lowered_stmts_box numbers body)) (items_written items) (by_body);
+    statements_box_end = refl;
+    statements_box_more = λ _ part rest by_part. by_part;
+    branches_end = refl;
+    branches_more = λ _ part rest by_part by_rest. both (is_branch true (lowered_elsif numbers part)) (all_branches (elsifs_row numbers rest)) (by_part) (by_rest);
+    branch_branch = λ pos condition then_word _ body by_body. by_body;
+    alternative_box_end = refl;
+    alternative_box_more = λ _ part rest by_part. by_part;
+    alternatives_end = refl;
+    alternatives_more = λ _ part rest by_part by_rest. both (is_alternative true (lowered_when numbers part)) (all_alternatives (whens_row numbers rest)) (by_part) (by_rest);
+    alternative_alternative = λ pos first rest arrow _ body by_body. by_body;
+  }
 
-    stmts_box_written : {n : _} (row : Row_of-Stmts n) → are_statements true (lowered_stmts_box numbers row) ≡ true
-    stmts_box_written end_of-Stmts = refl
-    stmts_box_written (more_of-Stmts part rest) = stmts_written part
-
-    elsifs_written : {n : _} (row : Row_of-Elsif n) → all_branches (elsifs_row numbers row) ≡ true
-    elsifs_written end_of-Elsif = refl
-    elsifs_written (more_of-Elsif part rest) =
-        both (is_branch true (lowered_elsif numbers part)) (all_branches (elsifs_row numbers rest)) (elsif_written part) (elsifs_written rest)
-
-    elsif_written : (tree : Elsif) → is_branch true (lowered_elsif numbers tree) ≡ true
-    elsif_written (branch.Branch' pos condition then_word _ body) = stmts_box_written body
-
-    when_box_written : {n : _} (row : Row_of-When n) → is_alternative true (lowered_when_box numbers row) ≡ true
-    when_box_written end_of-When = refl
-    when_box_written (more_of-When part rest) = when_written part
-
-    whens_written : {n : _} (row : Row_of-When n) → all_alternatives (whens_row numbers row) ≡ true
-    whens_written end_of-When = refl
-    whens_written (more_of-When part rest) =
-        both (is_alternative true (lowered_when numbers part)) (all_alternatives (whens_row numbers rest)) (when_written part) (whens_written rest)
-
-    when_written : (tree : When) → is_alternative true (lowered_when numbers tree) ≡ true
-    when_written (alternative.Alternative' pos first rest arrow _ body) = stmts_box_written body
+  stmts_written : (tree : Stmts) → are_statements true (lowered_stmts numbers tree) ≡ true
+  stmts_written = on_statements stmts_written_laws
 
 -- ---- each exit stands in a loop
 

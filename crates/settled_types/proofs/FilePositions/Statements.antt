@@ -25,6 +25,7 @@ use Rattle.name_events.specs.declared.event.Event.TheVariants as e
 use Rattle.name_events.specs.declared.event.Clause.{Clause}
 use Rattle.name_events.specs.ExpressionOutline.{mention, next_dotted_name, next_arg_events, expr_events, range_events, next_choice_events}
 use Rattle.name_events.specs.Outline.{indication_events, component_events, use_events, subtype_events, type_events, item_events, simple_events, stmts_events, stmt_box_events, stmt_list_events, stmt_events, stmts_box_events, elsifs_events, elsif_events, when_box_events, whens_events, when_events}
+use Rattle.settled_types.proofs.StatementCases.{StatementLaws, on_statements}
 use Rattle.settled_types.specs.FilePositions.Order.{Follows}
 use Rattle.settled_types.proofs.FilePositions.Rows.{none, both, grouped, ungrouped, past, behind, ahead, each, silent, declared, all_declared, defined, dotted_follows, mentioned, components_follow}
 use Rattle.settled_types.proofs.FilePositions.Expressions.{name_follows, next_arg_follows, arg_follows, expr_follows, range_follows, choice_follows, next_choice_follows}
@@ -90,69 +91,55 @@ items_follow d items = each item_events (item_spelling d) (item_follows d) items
 closes : {ms : List WeighedToken} → Follows (e.RegionCloses ∷ []) ms
 closes = silent e.RegionCloses refl none
 
-mutual
-  unfolding simple_events stmts_events stmt_box_events stmt_list_events stmt_events stmts_box_events elsifs_events elsif_events when_box_events whens_events when_events stmts_box stmts_spelling stmt_box next_stmts_spelling stmt_spelling elsifs_spelling elsif_spelling when_box next_whens_spelling when_spelling
-
-  pub stmts_follow : (d : ℕ) (s : Stmts) → Follows (stmts_events s) (stmts_spelling d s)
-  stmts_follow d (stmts.Sequence' pos _ first _ rest) = both (stmt_box_follows d first) (next_stmts_follow d rest)
-
-  stmt_box_follows : {n : _} (d : ℕ) (row : Row_of-Stmt n) → Follows (stmt_box_events row) (stmt_box d row)
-  stmt_box_follows d end_of-Stmt = none
-  stmt_box_follows d (more_of-Stmt part rest) = stmt_follows d part
-
-  next_stmts_follow : {n : _} (d : ℕ) (row : Row_of-Stmt n) → Follows (stmt_list_events row) (next_stmts_spelling d row)
-  next_stmts_follow d end_of-Stmt = none
-  next_stmts_follow d (more_of-Stmt part rest) = both (stmt_follows d part) (next_stmts_follow d rest)
-
-  stmts_box_follows : {n : _} (d : ℕ) (row : Row_of-Stmts n) → Follows (stmts_box_events row) (stmts_box d row)
-  stmts_box_follows d end_of-Stmts = none
-  stmts_box_follows d (more_of-Stmts part rest) = stmts_follow d part
-
-  stmt_follows : (d : ℕ) (s : Stmt) → Follows (stmt_events s) (stmt_spelling d s)
-  stmt_follows d (stmt.Null pos semicolon) = none
-  stmt_follows d (stmt.Assign pos target becomes value semicolon) =
-      both (name_follows Apart d target) (past _ (ahead _ (expr_follows d value)))
-  stmt_follows d (stmt.Call pos called semicolon) = ahead _ (name_follows Apart d called)
-  stmt_follows d (stmt.Exit pos semicolon) = none
-  stmt_follows d (stmt.ExitWhen pos when condition semicolon) = past _ (past _ (ahead _ (expr_follows d condition)))
-  stmt_follows d (stmt.Return pos semicolon) = none
-  stmt_follows d (stmt.ReturnValue pos value semicolon) = past _ (ahead _ (expr_follows d value))
-  stmt_follows d (stmt.If' pos condition then _ body _ elsifs end end_if semicolon) =
-      past _ (both (expr_follows (suc d) condition) (past _ (both (stmts_box_follows (suc d) body) (ahead _ (elsifs_follow (suc d) elsifs)))))
-  stmt_follows d (stmt.IfElse' pos condition then _ body _ elsifs otherwise _ otherwise_body end end_if semicolon) =
-      past _ (both (expr_follows (suc d) condition) (past _ (both (stmts_box_follows (suc d) body) (both (elsifs_follow (suc d) elsifs)
-      (past _ (ahead _ (stmts_box_follows (suc d) otherwise_body)))))))
-  stmt_follows d (stmt.Case' pos selector is _ first _ rest end end_case semicolon) =
-      past _ (both (expr_follows (suc d) selector) (past _ (both (when_box_follows (suc d) first) (ahead _ (next_whens_follow (suc d) rest)))))
-  stmt_follows d (stmt.Loop' pos _ body end end_loop semicolon) = past _ (ahead _ (stmts_box_follows (suc d) body))
-  stmt_follows d (stmt.While' pos condition loop_word _ body end end_loop semicolon) =
-      past _ (both (expr_follows (suc d) condition) (past _ (ahead _ (stmts_box_follows (suc d) body))))
-  stmt_follows d (stmt.For' pos parameter in_word reverse over loop_word _ body end end_loop semicolon) =
-      past _ (silent e.RegionOpens refl (declared _ Apart parameter (past _ (behind (optional_word _ reverse)
+stmts_follow_laws : StatementLaws (record {
+  of_statements = λ s. (d : ℕ) → Follows (stmts_events s) (stmts_spelling d s);
+  of_statement_box = λ n row. (d : ℕ) → Follows (stmt_box_events row) (stmt_box d row);
+  of_statement_row = λ n row. (d : ℕ) → Follows (stmt_list_events row) (next_stmts_spelling d row);
+  of_statement = λ s. (d : ℕ) → Follows (stmt_events s) (stmt_spelling d s);
+  of_statements_box = λ n row. (d : ℕ) → Follows (stmts_box_events row) (stmts_box d row);
+  of_branches = λ n row. (d : ℕ) → Follows (elsifs_events row) (elsifs_spelling d row);
+  of_branch = λ b. (d : ℕ) → Follows (elsif_events b) (elsif_spelling d b);
+  of_alternative_box = λ n row. (d : ℕ) → Follows (when_box_events row) (when_box d row);
+  of_alternatives = λ n row. (d : ℕ) → Follows (whens_events row) (next_whens_spelling d row);
+  of_alternative = λ w. (d : ℕ) → Follows (when_events w) (when_spelling d w);
+})
+unfolding simple_events stmts_events stmt_box_events stmt_list_events stmt_events stmts_box_events elsifs_events elsif_events when_box_events whens_events when_events stmts_box stmts_spelling stmt_box next_stmts_spelling stmt_spelling elsifs_spelling elsif_spelling when_box next_whens_spelling when_spelling
+stmts_follow_laws = record {
+  statements_sequence = λ pos _ first _ rest by_first by_rest d. both (by_first d) (by_rest d);
+  statement_box_end = λ d. none;
+  statement_box_more = λ _ part rest by_part d. by_part d;
+  statement_row_end = λ d. none;
+  statement_row_more = λ _ part rest by_part by_rest d. both (by_part d) (by_rest d);
+  statement_null = λ pos semicolon d. none;
+  statement_assign = λ pos target becomes value semicolon d. both (name_follows Apart d target) (past _ (ahead _ (expr_follows d value)));
+  statement_call = λ pos called semicolon d. ahead _ (name_follows Apart d called);
+  statement_exit = λ pos semicolon d. none;
+  statement_exit_when = λ pos when condition semicolon d. past _ (past _ (ahead _ (expr_follows d condition)));
+  statement_return = λ pos semicolon d. none;
+  statement_return_value = λ pos value semicolon d. past _ (ahead _ (expr_follows d value));
+  statement_if = λ pos condition then _ body _ elsifs end end_if semicolon by_body by_elsifs d. past _ (both (expr_follows (suc d) condition) (past _ (both (by_body (suc d)) (ahead _ (by_elsifs (suc d))))));
+  statement_if_else = λ pos condition then _ body _ elsifs otherwise _ otherwise_body end end_if semicolon by_body by_elsifs by_otherwise_body d. past _ (both (expr_follows (suc d) condition) (past _ (both (by_body (suc d)) (both (by_elsifs (suc d))
+      (past _ (ahead _ (by_otherwise_body (suc d))))))));
+  statement_case = λ pos selector is _ first _ rest end end_case semicolon by_first by_rest d. past _ (both (expr_follows (suc d) selector) (past _ (both (by_first (suc d)) (ahead _ (by_rest (suc d))))));
+  statement_loop = λ pos _ body end end_loop semicolon by_body d. past _ (ahead _ (by_body (suc d)));
+  statement_while = λ pos condition loop_word _ body end end_loop semicolon by_body d. past _ (both (expr_follows (suc d) condition) (past _ (ahead _ (by_body (suc d)))));
+  statement_for = λ pos parameter in_word reverse over loop_word _ body end end_loop semicolon by_body d. past _ (silent e.RegionOpens refl (declared _ Apart parameter (past _ (behind (optional_word _ reverse)
       (grouped (range_events over) (e.DeclarationsEnd ∷ []) (stmts_box_events body ++ (e.RegionCloses ∷ []))
-      (both (range_follows (suc d) over) (past _ (silent e.DeclarationsEnd refl (both (stmts_box_follows (suc d) body) closes)))))))))
-  stmt_follows d (stmt.Block' pos _ body end semicolon) =
-      past _ (silent e.RegionOpens refl (both (stmts_box_follows (suc d) body) closes))
-  stmt_follows d (stmt.DeclareBlock' pos items begin _ body end semicolon) =
-      past _ (silent e.RegionOpens refl (both (items_follow (suc d) items) (past _ (both (stmts_box_follows (suc d) body) closes))))
+      (both (range_follows (suc d) over) (past _ (silent e.DeclarationsEnd refl (both (by_body (suc d)) closes)))))))));
+  statement_block = λ pos _ body end semicolon by_body d. past _ (silent e.RegionOpens refl (both (by_body (suc d)) closes));
+  statement_declare_block = λ pos items begin _ body end semicolon by_body d. past _ (silent e.RegionOpens refl (both (items_follow (suc d) items) (past _ (both (by_body (suc d)) closes))));
+  statements_box_end = λ d. none;
+  statements_box_more = λ _ part rest by_part d. by_part d;
+  branches_end = λ d. none;
+  branches_more = λ _ part rest by_part by_rest d. both (by_part d) (by_rest d);
+  branch_branch = λ pos condition then _ body by_body d. past _ (both (expr_follows d condition) (past _ (by_body d)));
+  alternative_box_end = λ d. none;
+  alternative_box_more = λ _ part rest by_part d. by_part d;
+  alternatives_end = λ d. none;
+  alternatives_more = λ _ part rest by_part by_rest d. both (by_part d) (by_rest d);
+  alternative_alternative = λ pos first rest arrow _ body by_body d. past _ (both (choice_follows d first) (both (each next_choice_events (next_choice_spelling d) (next_choice_follows d) rest)
+      (past _ (by_body d))));
+}
 
-  elsifs_follow : {n : _} (d : ℕ) (row : Row_of-Elsif n) → Follows (elsifs_events row) (elsifs_spelling d row)
-  elsifs_follow d end_of-Elsif = none
-  elsifs_follow d (more_of-Elsif part rest) = both (elsif_follows d part) (elsifs_follow d rest)
-
-  elsif_follows : (d : ℕ) (b : Elsif) → Follows (elsif_events b) (elsif_spelling d b)
-  elsif_follows d (branch.Branch' pos condition then _ body) =
-      past _ (both (expr_follows d condition) (past _ (stmts_box_follows d body)))
-
-  when_box_follows : {n : _} (d : ℕ) (row : Row_of-When n) → Follows (when_box_events row) (when_box d row)
-  when_box_follows d end_of-When = none
-  when_box_follows d (more_of-When part rest) = when_follows d part
-
-  next_whens_follow : {n : _} (d : ℕ) (row : Row_of-When n) → Follows (whens_events row) (next_whens_spelling d row)
-  next_whens_follow d end_of-When = none
-  next_whens_follow d (more_of-When part rest) = both (when_follows d part) (next_whens_follow d rest)
-
-  when_follows : (d : ℕ) (w : When) → Follows (when_events w) (when_spelling d w)
-  when_follows d (alternative.Alternative' pos first rest arrow _ body) =
-      past _ (both (choice_follows d first) (both (each next_choice_events (next_choice_spelling d) (next_choice_follows d) rest)
-      (past _ (stmts_box_follows d body))))
+pub stmts_follow : (d : ℕ) (s : Stmts) → Follows (stmts_events s) (stmts_spelling d s)
+stmts_follow d s = on_statements stmts_follow_laws s d

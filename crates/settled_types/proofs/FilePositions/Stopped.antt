@@ -37,6 +37,7 @@ use Rattle.ada_tree.specs.WellPlaced.{EachSome, DottedPlaced, ComponentPlaced, I
 use Rattle.machine.specs.resolved_tree.Trees.{Code, code_list}
 use Rattle.expression_lowering.specs.LoweredExpressions.{Numbers}
 use Rattle.tree_lowering.specs.Lowered.{lowered_component, lowered_subtype, lowered_type, lowered_declaration, item_before, before_all, lowered_items, lowered_simple, lowered_stmts, lowered_stmt_box, stmts_row, lowered_stmt, lowered_stmts_box, elsifs_row, lowered_elsif, lowered_when_box, whens_row, lowered_when, lowered_subprogram, decl_before, part_before, lowered_decls, lowered_private, lowered_package, lowered_package_body, lowered_unit}
+use Rattle.settled_types.proofs.StatementCases.{StatementLaws, on_statements}
 use Rattle.settled_types.specs.FilePositions.Order.{IsLeftOf, token_position, spelled_positions}
 use Rattle.settled_types.specs.FilePositions.Stops.{group_stops, list_stops, stops, all_stops}
 use Rattle.settled_types.proofs.FilePositions.Rows.{left_behind, left_both}
@@ -130,63 +131,57 @@ module _ (numbers : Numbers) where
   simple_stands d (stmt.ReturnValue pos value semicolon) = none
   simple_stands d other = none
 
-  mutual
-    unfolding stops lowered_stmts lowered_stmt_box stmts_row lowered_stmt lowered_stmts_box elsifs_row lowered_elsif lowered_when_box whens_row lowered_when stmts_box stmts_spelling stmt_box next_stmts_spelling stmt_spelling elsifs_spelling elsif_spelling when_box next_whens_spelling when_spelling StmtsBoxPlaced StmtsPlaced StmtBoxPlaced EachStmtPlaced StmtPlaced ElsifsPlaced ElsifPlaced WhenBoxPlaced WhensPlaced WhenPlaced
+  stmts_stand_laws : StatementLaws (record {
+    of_statements = λ x. (d : ℕ) → StmtsPlaced d x → Stands (stops (lowered_stmts numbers x)) (stmts_spelling d x);
+    of_statement_box = λ n row. (d : ℕ) → StmtBoxPlaced d row → Stands (stops (lowered_stmt_box numbers row)) (stmt_box d row);
+    of_statement_row = λ n row. (d : ℕ) → EachStmtPlaced d row → Stands (stops (code_list (stmts_row numbers row))) (next_stmts_spelling d row);
+    of_statement = λ x. (d : ℕ) → StmtPlaced d x → Stands (stops (lowered_stmt numbers x)) (stmt_spelling d x);
+    of_statements_box = λ n row. (d : ℕ) → StmtsBoxPlaced d row → Stands (stops (lowered_stmts_box numbers row)) (stmts_box d row);
+    of_branches = λ n row. (d : ℕ) → ElsifsPlaced d row → Stands (stops (code_list (elsifs_row numbers row))) (elsifs_spelling d row);
+    of_branch = λ x. (d : ℕ) → ElsifPlaced d x → Stands (stops (lowered_elsif numbers x)) (elsif_spelling d x);
+    of_alternative_box = λ n row. (d : ℕ) → WhenBoxPlaced d row → Stands (stops (lowered_when_box numbers row)) (when_box d row);
+    of_alternatives = λ n row. (d : ℕ) → WhensPlaced d row → Stands (stops (code_list (whens_row numbers row))) (next_whens_spelling d row);
+    of_alternative = λ x. (d : ℕ) → WhenPlaced d x → Stands (stops (lowered_when numbers x)) (when_spelling d x);
+  })
+  unfolding stops lowered_stmts lowered_stmt_box stmts_row lowered_stmt lowered_stmts_box elsifs_row lowered_elsif lowered_when_box whens_row lowered_when stmts_box stmts_spelling stmt_box next_stmts_spelling stmt_spelling elsifs_spelling elsif_spelling when_box next_whens_spelling when_spelling StmtsBoxPlaced StmtsPlaced StmtBoxPlaced EachStmtPlaced StmtPlaced ElsifsPlaced ElsifPlaced WhenBoxPlaced WhensPlaced WhenPlaced
+  stmts_stand_laws = record {
+    statements_sequence = λ pos _ first _ rest by_first by_rest d placed. both (by_first d placed.1) (by_rest d placed.2);
+    statement_box_end = λ d placed. none;
+    statement_box_more = λ _ part rest by_part d placed. by_part d placed;
+    statement_row_end = λ d placed. none;
+    statement_row_more = λ _ part rest by_part by_rest d placed. both (by_part d placed.0) (by_rest d placed.1);
+    statement_null = λ pos semicolon d placed. simple_stands d (stmt.Null pos semicolon);
+    statement_assign = λ pos target becomes value semicolon d placed. simple_stands d (stmt.Assign pos target becomes value semicolon);
+    statement_call = λ pos called semicolon d placed. simple_stands d (stmt.Call pos called semicolon);
+    statement_exit = λ pos semicolon d placed. simple_stands d (stmt.Exit pos semicolon);
+    statement_exit_when = λ pos when_word condition semicolon d placed. simple_stands d (stmt.ExitWhen pos when_word condition semicolon);
+    statement_return = λ pos semicolon d placed. simple_stands d (stmt.Return pos semicolon);
+    statement_return_value = λ pos value semicolon d placed. simple_stands d (stmt.ReturnValue pos value semicolon);
+    statement_if = λ pos condition then_word _ body _ elsifs end end_if semicolon by_body by_elsifs d placed. past _ (after _ (past _ (grouped (stops (lowered_stmts_box numbers body)) (stops (code_list (elsifs_row numbers elsifs))) []
+        (both (by_body (suc d) placed.1) (both (by_elsifs (suc d) placed.2) none)))));
+    statement_if_else = λ pos condition then_word _ body _ elsifs otherwise _ other end end_if semicolon by_body by_elsifs by_other d placed. past _ (after _ (past _ (grouped (stops (lowered_stmts_box numbers body)) (stops (code_list (elsifs_row numbers elsifs))) (stops (lowered_stmts_box numbers other))
+        (both (by_body (suc d) placed.1) (both (by_elsifs (suc d) placed.2)
+        (past _ (ahead _ (by_other (suc d) placed.3))))))));
+    statement_case = λ pos selecting is _ first _ rest end end_case semicolon by_first by_rest d placed. past _ (after _ (past _ (both (by_first (suc d) placed.1) (ahead _ (by_rest (suc d) placed.2)))));
+    statement_loop = λ pos _ body end end_loop semicolon by_body d placed. past _ (ahead _ (by_body (suc d) placed));
+    statement_while = λ pos condition loop_word _ body end end_loop semicolon by_body d placed. past _ (after _ (past _ (ahead _ (by_body (suc d) placed.1))));
+    statement_for = λ pos parameter in_word reverse steps loop_word _ body end end_loop semicolon by_body d placed. past _ (past _ (past _ (after _ (after _ (past _ (ahead _ (by_body (suc d) placed.1)))))));
+    statement_block = λ pos _ body end semicolon by_body d placed. past _ (ahead _ (by_body (suc d) placed));
+    statement_declare_block = λ pos items begin _ body end semicolon by_body d placed. past _ (both (items_stand (suc d) items placed.0) (past _ (ahead _ (by_body (suc d) placed.1))));
+    statements_box_end = λ d placed. none;
+    statements_box_more = λ _ part rest by_part d placed. by_part d placed;
+    branches_end = λ d placed. none;
+    branches_more = λ _ part rest by_part by_rest d placed. both (by_part d placed.0) (by_rest d placed.1);
+    branch_branch = λ pos condition then_word _ body by_body d placed. past _ (after _ (past _ (by_body d placed.1)));
+    alternative_box_end = λ d placed. none;
+    alternative_box_more = λ _ part rest by_part d placed. by_part d placed;
+    alternatives_end = λ d placed. none;
+    alternatives_more = λ _ part rest by_part by_rest d placed. both (by_part d placed.0) (by_rest d placed.1);
+    alternative_alternative = λ pos first rest arrow _ body by_body d placed. past _ (after _ (after _ (past _ (by_body d placed.2))));
+  }
 
-    stmts_stand : (d : ℕ) (x : Stmts) → StmtsPlaced d x → Stands (stops (lowered_stmts numbers x)) (stmts_spelling d x)
-    stmts_stand d (stmts.Sequence' pos _ first _ rest) placed = both (stmt_box_stands d first placed.1) (next_stmts_stand d rest placed.2)
-
-    stmt_box_stands : {n : _} (d : ℕ) (row : Row_of-Stmt n) → StmtBoxPlaced d row → Stands (stops (lowered_stmt_box numbers row)) (stmt_box d row)
-    stmt_box_stands d end_of-Stmt placed = none
-    stmt_box_stands d (more_of-Stmt part rest) placed = stmt_stands d part placed
-
-    next_stmts_stand : {n : _} (d : ℕ) (row : Row_of-Stmt n) → EachStmtPlaced d row
-        → Stands (stops (code_list (stmts_row numbers row))) (next_stmts_spelling d row)
-    next_stmts_stand d end_of-Stmt placed = none
-    next_stmts_stand d (more_of-Stmt part rest) placed = both (stmt_stands d part placed.0) (next_stmts_stand d rest placed.1)
-
-    stmts_box_stands : {n : _} (d : ℕ) (row : Row_of-Stmts n) → StmtsBoxPlaced d row → Stands (stops (lowered_stmts_box numbers row)) (stmts_box d row)
-    stmts_box_stands d end_of-Stmts placed = none
-    stmts_box_stands d (more_of-Stmts part rest) placed = stmts_stand d part placed
-
-    stmt_stands : (d : ℕ) (x : Stmt) → StmtPlaced d x → Stands (stops (lowered_stmt numbers x)) (stmt_spelling d x)
-    stmt_stands d (stmt.If' pos condition then_word _ body _ elsifs end end_if semicolon) placed =
-        past _ (after _ (past _ (grouped (stops (lowered_stmts_box numbers body)) (stops (code_list (elsifs_row numbers elsifs))) []
-        (both (stmts_box_stands (suc d) body placed.1) (both (elsifs_stand (suc d) elsifs placed.2) none)))))
-    stmt_stands d (stmt.IfElse' pos condition then_word _ body _ elsifs otherwise _ other end end_if semicolon) placed =
-        past _ (after _ (past _ (grouped (stops (lowered_stmts_box numbers body)) (stops (code_list (elsifs_row numbers elsifs))) (stops (lowered_stmts_box numbers other))
-        (both (stmts_box_stands (suc d) body placed.1) (both (elsifs_stand (suc d) elsifs placed.2)
-        (past _ (ahead _ (stmts_box_stands (suc d) other placed.3))))))))
-    stmt_stands d (stmt.Case' pos selecting is _ first _ rest end end_case semicolon) placed =
-        past _ (after _ (past _ (both (when_box_stands (suc d) first placed.1) (ahead _ (whens_stand (suc d) rest placed.2)))))
-    stmt_stands d (stmt.Loop' pos _ body end end_loop semicolon) placed = past _ (ahead _ (stmts_box_stands (suc d) body placed))
-    stmt_stands d (stmt.While' pos condition loop_word _ body end end_loop semicolon) placed =
-        past _ (after _ (past _ (ahead _ (stmts_box_stands (suc d) body placed.1))))
-    stmt_stands d (stmt.For' pos parameter in_word reverse steps loop_word _ body end end_loop semicolon) placed =
-        past _ (past _ (past _ (after _ (after _ (past _ (ahead _ (stmts_box_stands (suc d) body placed.1)))))))
-    stmt_stands d (stmt.Block' pos _ body end semicolon) placed = past _ (ahead _ (stmts_box_stands (suc d) body placed))
-    stmt_stands d (stmt.DeclareBlock' pos items begin _ body end semicolon) placed =
-        past _ (both (items_stand (suc d) items placed.0) (past _ (ahead _ (stmts_box_stands (suc d) body placed.1))))
-    stmt_stands d simple placed = simple_stands d simple
-
-    elsifs_stand : {n : _} (d : ℕ) (row : Row_of-Elsif n) → ElsifsPlaced d row → Stands (stops (code_list (elsifs_row numbers row))) (elsifs_spelling d row)
-    elsifs_stand d end_of-Elsif placed = none
-    elsifs_stand d (more_of-Elsif part rest) placed = both (elsif_stands d part placed.0) (elsifs_stand d rest placed.1)
-
-    elsif_stands : (d : ℕ) (x : Elsif) → ElsifPlaced d x → Stands (stops (lowered_elsif numbers x)) (elsif_spelling d x)
-    elsif_stands d (branch.Branch' pos condition then_word _ body) placed = past _ (after _ (past _ (stmts_box_stands d body placed.1)))
-
-    when_box_stands : {n : _} (d : ℕ) (row : Row_of-When n) → WhenBoxPlaced d row → Stands (stops (lowered_when_box numbers row)) (when_box d row)
-    when_box_stands d end_of-When placed = none
-    when_box_stands d (more_of-When part rest) placed = when_stands d part placed
-
-    whens_stand : {n : _} (d : ℕ) (row : Row_of-When n) → WhensPlaced d row → Stands (stops (code_list (whens_row numbers row))) (next_whens_spelling d row)
-    whens_stand d end_of-When placed = none
-    whens_stand d (more_of-When part rest) placed = both (when_stands d part placed.0) (whens_stand d rest placed.1)
-
-    when_stands : (d : ℕ) (x : When) → WhenPlaced d x → Stands (stops (lowered_when numbers x)) (when_spelling d x)
-    when_stands d (alternative.Alternative' pos first rest arrow _ body) placed =
-        past _ (after _ (after _ (past _ (stmts_box_stands d body placed.2))))
+  stmts_stand : (d : ℕ) (x : Stmts) → StmtsPlaced d x → Stands (stops (lowered_stmts numbers x)) (stmts_spelling d x)
+  stmts_stand d x = on_statements stmts_stand_laws x d
 
   -- ---- units
 

@@ -46,6 +46,7 @@ use Rattle.machine.specs.resolved_tree.Trees.{Code, code_list}
 use Rattle.machine.specs.type_definitions.Gathered.{texts}
 use Rattle.expression_lowering.specs.LoweredExpressions.{Numbers}
 use Rattle.tree_lowering.specs.Lowered.{component_next, lowered_component, lowered_subtype, lowered_type, lowered_declaration, item_before, before_all, lowered_items, lowered_simple, lowered_stmts, lowered_stmt_box, stmts_row, lowered_stmt, lowered_stmts_box, elsifs_row, lowered_elsif, lowered_when_box, whens_row, lowered_when, lowered_subprogram, decl_before, part_before, lowered_decls, lowered_private, lowered_package, lowered_package_body, lowered_unit, lowered_files}
+use Rattle.settled_types.proofs.StatementCases.{StatementLaws, on_statements}
 use Rattle.settled_types.specs.GatheredLaws.Components.{group_texts, list_texts, AreRecordsApart}
 use Rattle.settled_types.proofs.NamedFiles.Faults.{BreaksNone, one_none, rest_none, first_none, second_none}
 use Rattle.settled_types.proofs.NamedFiles.Words.{lower, AreFresh, added_all, fresh_both, fresh_apart}
@@ -161,108 +162,101 @@ module _ (whole : Known) where
     after_first : (xs ys : List Event) (now : Known) → BreaksNone whole now (xs ++ ys) → BreaksNone whole (known_behind_all now xs) ys
     after_first xs ys now none = second_none whole xs ys now none
 
-    mutual
-      unfolding AreRecordsApart lowered_stmts lowered_stmt_box stmts_row lowered_stmt lowered_stmts_box elsifs_row lowered_elsif lowered_when_box whens_row lowered_when stmts_events stmt_box_events stmt_list_events stmt_events stmts_box_events elsifs_events elsif_events when_box_events whens_events when_events
-
-      stmts_apart : (s : Stmts) (now : Known) → BreaksNone whole now (stmts_events s) → AreRecordsApart (lowered_stmts numbers s)
-      stmts_apart (stmts.Sequence' pos _ first _ rest) now none = (
-        stmt_box_apart first now (first_none whole (stmt_box_events first) (stmt_list_events rest) now none),
-        stmt_list_apart rest (known_behind_all now (stmt_box_events first)) (after_first (stmt_box_events first) (stmt_list_events rest) now none),
-      )
-
-      stmt_box_apart : {n : _} (row : Row_of-Stmt n) (now : Known) → BreaksNone whole now (stmt_box_events row) → AreRecordsApart (lowered_stmt_box numbers row)
-      stmt_box_apart end_of-Stmt now none = tt
-      stmt_box_apart (more_of-Stmt part rest) now none = stmt_apart part now none
-
-      stmt_list_apart : {n : _} (row : Row_of-Stmt n) (now : Known) → BreaksNone whole now (stmt_list_events row) → AreRecordsApart (code_list (stmts_row numbers row))
-      stmt_list_apart end_of-Stmt now none = tt
-      stmt_list_apart (more_of-Stmt part rest) now none = (
-        stmt_apart part now (first_none whole (stmt_events part) (stmt_list_events rest) now none),
-        stmt_list_apart rest (known_behind_all now (stmt_events part)) (after_first (stmt_events part) (stmt_list_events rest) now none),
-      )
-
-      stmt_apart : (s : Stmt) (now : Known) → BreaksNone whole now (stmt_events s) → AreRecordsApart (lowered_stmt numbers s)
-      stmt_apart (stmt.If' pos condition then_word _ body _ elsifs end end_if semicolon) now none =
-          let inner : Known = known_behind_all now (expr_events condition) in
+    stmts_apart_laws : StatementLaws (record {
+      of_statements = λ s. (now : Known) → BreaksNone whole now (stmts_events s) → AreRecordsApart (lowered_stmts numbers s);
+      of_statement_box = λ n row. (now : Known) → BreaksNone whole now (stmt_box_events row) → AreRecordsApart (lowered_stmt_box numbers row);
+      of_statement_row = λ n row. (now : Known) → BreaksNone whole now (stmt_list_events row) → AreRecordsApart (code_list (stmts_row numbers row));
+      of_statement = λ s. (now : Known) → BreaksNone whole now (stmt_events s) → AreRecordsApart (lowered_stmt numbers s);
+      of_statements_box = λ n row. (now : Known) → BreaksNone whole now (stmts_box_events row) → AreRecordsApart (lowered_stmts_box numbers row);
+      of_branches = λ n row. (now : Known) → BreaksNone whole now (elsifs_events row) → AreRecordsApart (code_list (elsifs_row numbers row));
+      of_branch = λ b. (now : Known) → BreaksNone whole now (elsif_events b) → AreRecordsApart (lowered_elsif numbers b);
+      of_alternative_box = λ n row. (now : Known) → BreaksNone whole now (when_box_events row) → AreRecordsApart (lowered_when_box numbers row);
+      of_alternatives = λ n row. (now : Known) → BreaksNone whole now (whens_events row) → AreRecordsApart (code_list (whens_row numbers row));
+      of_alternative = λ w. (now : Known) → BreaksNone whole now (when_events w) → AreRecordsApart (lowered_when numbers w);
+    })
+    unfolding AreRecordsApart lowered_stmts lowered_stmt_box stmts_row lowered_stmt lowered_stmts_box elsifs_row lowered_elsif lowered_when_box whens_row lowered_when stmts_events stmt_box_events stmt_list_events stmt_events stmts_box_events elsifs_events elsif_events when_box_events whens_events when_events
+    stmts_apart_laws = record {
+      statements_sequence = λ pos _ first _ rest by_first by_rest now none. (
+        by_first now (first_none whole (stmt_box_events first) (stmt_list_events rest) now none),
+        by_rest (known_behind_all now (stmt_box_events first)) (after_first (stmt_box_events first) (stmt_list_events rest) now none),
+      );
+      statement_box_end = λ now none. tt;
+      statement_box_more = λ _ part rest by_part now none. by_part now none;
+      statement_row_end = λ now none. tt;
+      statement_row_more = λ _ part rest by_part by_rest now none. (
+        by_part now (first_none whole (stmt_events part) (stmt_list_events rest) now none),
+        by_rest (known_behind_all now (stmt_events part)) (after_first (stmt_events part) (stmt_list_events rest) now none),
+      );
+      statement_null = λ pos semicolon now none. simple_apart (stmt.Null pos semicolon);
+      statement_assign = λ pos target becomes value semicolon now none. simple_apart (stmt.Assign pos target becomes value semicolon);
+      statement_call = λ pos called semicolon now none. simple_apart (stmt.Call pos called semicolon);
+      statement_exit = λ pos semicolon now none. simple_apart (stmt.Exit pos semicolon);
+      statement_exit_when = λ pos when_word condition semicolon now none. simple_apart (stmt.ExitWhen pos when_word condition semicolon);
+      statement_return = λ pos semicolon now none. simple_apart (stmt.Return pos semicolon);
+      statement_return_value = λ pos value semicolon now none. simple_apart (stmt.ReturnValue pos value semicolon);
+      statement_if = λ pos condition then_word _ body _ elsifs end end_if semicolon by_body by_elsifs now none. let inner : Known = known_behind_all now (expr_events condition) in
           let parts : BreaksNone whole inner (stmts_box_events body ++ elsifs_events elsifs) = after_first (expr_events condition) (stmts_box_events body ++ elsifs_events elsifs) now none in (
             (
-              stmts_box_apart body inner (first_none whole (stmts_box_events body) (elsifs_events elsifs) inner parts),
-              elsifs_apart elsifs (known_behind_all inner (stmts_box_events body)) (after_first (stmts_box_events body) (elsifs_events elsifs) inner parts),
+              by_body inner (first_none whole (stmts_box_events body) (elsifs_events elsifs) inner parts),
+              by_elsifs (known_behind_all inner (stmts_box_events body)) (after_first (stmts_box_events body) (elsifs_events elsifs) inner parts),
             ),
             tt,
-          )
-      stmt_apart (stmt.IfElse' pos condition then_word _ body _ elsifs otherwise _ other end end_if semicolon) now none =
-          let inner : Known = known_behind_all now (expr_events condition) in
+          );
+      statement_if_else = λ pos condition then_word _ body _ elsifs otherwise _ other end end_if semicolon by_body by_elsifs by_other now none. let inner : Known = known_behind_all now (expr_events condition) in
           let last : List Event = elsifs_events elsifs ++ stmts_box_events other in
           let parts : BreaksNone whole inner (stmts_box_events body ++ last) = after_first (expr_events condition) (stmts_box_events body ++ last) now none in
           let middle : Known = known_behind_all inner (stmts_box_events body) in
           let lasts : BreaksNone whole middle last = after_first (stmts_box_events body) last inner parts in (
             (
-              stmts_box_apart body inner (first_none whole (stmts_box_events body) last inner parts),
-              elsifs_apart elsifs middle (first_none whole (elsifs_events elsifs) (stmts_box_events other) middle lasts),
+              by_body inner (first_none whole (stmts_box_events body) last inner parts),
+              by_elsifs middle (first_none whole (elsifs_events elsifs) (stmts_box_events other) middle lasts),
             ),
-            stmts_box_apart other (known_behind_all middle (elsifs_events elsifs)) (after_first (elsifs_events elsifs) (stmts_box_events other) middle lasts),
-          )
-      stmt_apart (stmt.Case' pos selecting is _ first _ rest end end_case semicolon) now none =
-          let inner : Known = known_behind_all now (expr_events selecting) in
+            by_other (known_behind_all middle (elsifs_events elsifs)) (after_first (elsifs_events elsifs) (stmts_box_events other) middle lasts),
+          );
+      statement_case = λ pos selecting is _ first _ rest end end_case semicolon by_first by_rest now none. let inner : Known = known_behind_all now (expr_events selecting) in
           let parts : BreaksNone whole inner (when_box_events first ++ whens_events rest) = after_first (expr_events selecting) (when_box_events first ++ whens_events rest) now none in (
-            when_box_apart first inner (first_none whole (when_box_events first) (whens_events rest) inner parts),
-            whens_apart rest (known_behind_all inner (when_box_events first)) (after_first (when_box_events first) (whens_events rest) inner parts),
-          )
-      stmt_apart (stmt.Loop' pos _ body end end_loop semicolon) now none = stmts_box_apart body now none
-      stmt_apart (stmt.While' pos condition loop_word _ body end end_loop semicolon) now none =
-          stmts_box_apart body (known_behind_all now (expr_events condition)) (after_first (expr_events condition) (stmts_box_events body) now none)
-      stmt_apart (stmt.For' pos parameter in_word reverse steps loop_word _ body end end_loop semicolon) now none =
-          let front : List Event = parameter_events parameter steps in
+            by_first inner (first_none whole (when_box_events first) (whens_events rest) inner parts),
+            by_rest (known_behind_all inner (when_box_events first)) (after_first (when_box_events first) (whens_events rest) inner parts),
+          );
+      statement_loop = λ pos _ body end end_loop semicolon by_body now none. by_body now none;
+      statement_while = λ pos condition loop_word _ body end end_loop semicolon by_body now none. by_body (known_behind_all now (expr_events condition)) (after_first (expr_events condition) (stmts_box_events body) now none);
+      statement_for = λ pos parameter in_word reverse steps loop_word _ body end end_loop semicolon by_body now none. let front : List Event = parameter_events parameter steps in
           let inner : Known = known_behind_all now front in
-          stmts_box_apart body inner
-          (first_none whole (stmts_box_events body) (e.RegionCloses ∷ []) inner (after_first front (stmts_box_events body ++ e.RegionCloses ∷ []) now none))
-      stmt_apart (stmt.Block' pos _ body end semicolon) now none =
-          let inner : Known = known_behind now e.RegionOpens in
-          (tt, stmts_box_apart body inner (first_none whole (stmts_box_events body) (e.RegionCloses ∷ []) inner (rest_none whole e.RegionOpens (stmts_box_events body ++ e.RegionCloses ∷ []) now none)))
-      stmt_apart (stmt.DeclareBlock' pos items begin _ body end semicolon) now none =
-          let declared : List Event = flat_map item_events items in
+          by_body inner
+          (first_none whole (stmts_box_events body) (e.RegionCloses ∷ []) inner (after_first front (stmts_box_events body ++ e.RegionCloses ∷ []) now none));
+      statement_block = λ pos _ body end semicolon by_body now none. let inner : Known = known_behind now e.RegionOpens in
+          (tt, by_body inner (first_none whole (stmts_box_events body) (e.RegionCloses ∷ []) inner (rest_none whole e.RegionOpens (stmts_box_events body ++ e.RegionCloses ∷ []) now none)));
+      statement_declare_block = λ pos items begin _ body end semicolon by_body now none. let declared : List Event = flat_map item_events items in
           let more : List Event = stmts_box_events body ++ e.RegionCloses ∷ [] in
           let inner : Known = known_behind now e.RegionOpens in
           let parts : BreaksNone whole inner (declared ++ more) = rest_none whole e.RegionOpens (declared ++ more) now none in
           let middle : Known = known_behind_all inner declared in (
             items_apart items inner (first_none whole declared more inner parts),
-            stmts_box_apart body middle (first_none whole (stmts_box_events body) (e.RegionCloses ∷ []) middle (after_first declared more inner parts)),
-          )
-      stmt_apart simple now none = simple_apart simple
-
-      stmts_box_apart : {n : _} (row : Row_of-Stmts n) (now : Known) → BreaksNone whole now (stmts_box_events row) → AreRecordsApart (lowered_stmts_box numbers row)
-      stmts_box_apart end_of-Stmts now none = tt
-      stmts_box_apart (more_of-Stmts part rest) now none = stmts_apart part now none
-
-      elsifs_apart : {n : _} (row : Row_of-Elsif n) (now : Known) → BreaksNone whole now (elsifs_events row) → AreRecordsApart (code_list (elsifs_row numbers row))
-      elsifs_apart end_of-Elsif now none = tt
-      elsifs_apart (more_of-Elsif part rest) now none = (
-        elsif_apart part now (first_none whole (elsif_events part) (elsifs_events rest) now none),
-        elsifs_apart rest (known_behind_all now (elsif_events part)) (after_first (elsif_events part) (elsifs_events rest) now none),
-      )
-
-      elsif_apart : (b : Elsif) (now : Known) → BreaksNone whole now (elsif_events b) → AreRecordsApart (lowered_elsif numbers b)
-      elsif_apart (branch.Branch' pos condition then_word _ body) now none =
-          stmts_box_apart body (known_behind_all now (expr_events condition)) (after_first (expr_events condition) (stmts_box_events body) now none)
-
-      when_box_apart : {n : _} (row : Row_of-When n) (now : Known) → BreaksNone whole now (when_box_events row) → AreRecordsApart (lowered_when_box numbers row)
-      when_box_apart end_of-When now none = tt
-      when_box_apart (more_of-When part rest) now none = when_apart part now none
-
-      whens_apart : {n : _} (row : Row_of-When n) (now : Known) → BreaksNone whole now (whens_events row) → AreRecordsApart (code_list (whens_row numbers row))
-      whens_apart end_of-When now none = tt
-      whens_apart (more_of-When part rest) now none = (
-        when_apart part now (first_none whole (when_events part) (whens_events rest) now none),
-        whens_apart rest (known_behind_all now (when_events part)) (after_first (when_events part) (whens_events rest) now none),
-      )
-
-      when_apart : (w : When) (now : Known) → BreaksNone whole now (when_events w) → AreRecordsApart (lowered_when numbers w)
-      when_apart (alternative.Alternative' pos first rest arrow _ body) now none =
-          let more : List Event = flat_map next_choice_events rest ++ stmts_box_events body in
+            by_body middle (first_none whole (stmts_box_events body) (e.RegionCloses ∷ []) middle (after_first declared more inner parts)),
+          );
+      statements_box_end = λ now none. tt;
+      statements_box_more = λ _ part rest by_part now none. by_part now none;
+      branches_end = λ now none. tt;
+      branches_more = λ _ part rest by_part by_rest now none. (
+        by_part now (first_none whole (elsif_events part) (elsifs_events rest) now none),
+        by_rest (known_behind_all now (elsif_events part)) (after_first (elsif_events part) (elsifs_events rest) now none),
+      );
+      branch_branch = λ pos condition then_word _ body by_body now none. by_body (known_behind_all now (expr_events condition)) (after_first (expr_events condition) (stmts_box_events body) now none);
+      alternative_box_end = λ now none. tt;
+      alternative_box_more = λ _ part rest by_part now none. by_part now none;
+      alternatives_end = λ now none. tt;
+      alternatives_more = λ _ part rest by_part by_rest now none. (
+        by_part now (first_none whole (when_events part) (whens_events rest) now none),
+        by_rest (known_behind_all now (when_events part)) (after_first (when_events part) (whens_events rest) now none),
+      );
+      alternative_alternative = λ pos first rest arrow _ body by_body now none. let more : List Event = flat_map next_choice_events rest ++ stmts_box_events body in
           let inner : Known = known_behind_all now (choice_events first) in
-          stmts_box_apart body (known_behind_all inner (flat_map next_choice_events rest))
-          (after_first (flat_map next_choice_events rest) (stmts_box_events body) inner (after_first (choice_events first) more now none))
+          by_body (known_behind_all inner (flat_map next_choice_events rest))
+          (after_first (flat_map next_choice_events rest) (stmts_box_events body) inner (after_first (choice_events first) more now none));
+    }
+
+    stmts_apart : (s : Stmts) (now : Known) → BreaksNone whole now (stmts_events s) → AreRecordsApart (lowered_stmts numbers s)
+    stmts_apart = on_statements stmts_apart_laws
 
     -- ---- units
 

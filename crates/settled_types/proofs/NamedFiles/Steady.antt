@@ -30,6 +30,7 @@ use Rattle.name_events.specs.declared.declaration.DeclarationForm.{DeclarationFo
 use Rattle.name_events.specs.declared.declaration.DeclarationForm.TheVariants as form
 use Rattle.name_events.specs.ExpressionOutline.{declares, declares_all, mention, next_name, name_events, arg_events, next_arg_events, expr_events, range_events, choice_events, next_choice_events, each_of, folded_identifier}
 use Rattle.name_events.specs.Outline.{component_events, subtype_events, type_events, item_events, use_events, indication_events, simple_events, stmts_events, stmt_box_events, stmt_list_events, stmt_events, stmts_box_events, elsifs_events, elsif_events, when_box_events, whens_events, when_events, formal_events, next_formal_events, formals_events}
+use Rattle.settled_types.proofs.StatementCases.{StatementLaws, on_statements}
 use Rattle.settled_types.specs.OrderlyFiles.Numbered.{is_flat, all_flat}
 use Rattle.settled_types.proofs.OrderlyFiles.Mentions.{mild_flat, name_mild, arg_mild, next_arg_mild, mild_each, expr_mild, range_mild, choice_mild, next_choice_mild}
 use Rattle.settled_types.proofs.OrderlyFiles.Statements.{use_mild}
@@ -161,67 +162,61 @@ around_steady : (xs ys : List Event) → Steady xs → Steady ys → Steady ((e.
 around_steady xs ys one two =
     subst (λ zs. Steady (e.RegionOpens ∷ zs)) (append_assoc xs ys (e.RegionCloses ∷ [])) (steady_region (xs ++ ys) (steady_both xs ys one two))
 
-mutual
-  unfolding stmts_events stmt_box_events stmt_list_events stmt_events stmts_box_events elsifs_events elsif_events when_box_events whens_events when_events
-
-  pub stmts_steady : (s : Stmts) → Steady (stmts_events s)
-  stmts_steady (stmts.Sequence' pos _ first _ rest) = steady_both (stmt_box_events first) (stmt_list_events rest) (stmt_box_steady first) (stmt_list_steady rest)
-
-  stmt_box_steady : {n : _} (row : Row_of-Stmt n) → Steady (stmt_box_events row)
-  stmt_box_steady end_of-Stmt = steady_none
-  stmt_box_steady (more_of-Stmt part rest) = stmt_steady part
-
-  stmt_list_steady : {n : _} (row : Row_of-Stmt n) → Steady (stmt_list_events row)
-  stmt_list_steady end_of-Stmt = steady_none
-  stmt_list_steady (more_of-Stmt part rest) = steady_both (stmt_events part) (stmt_list_events rest) (stmt_steady part) (stmt_list_steady rest)
-
-  stmt_steady : (s : Stmt) → Steady (stmt_events s)
-  stmt_steady (stmt.If' pos condition then_word _ body _ elsifs end end_if semicolon) =
-      steady_both (expr_events condition) (stmts_box_events body ++ elsifs_events elsifs) (expr_steady condition)
-      (steady_both (stmts_box_events body) (elsifs_events elsifs) (stmts_box_steady body) (elsifs_steady elsifs))
-  stmt_steady (stmt.IfElse' pos condition then_word _ body _ elsifs otherwise _ other end end_if semicolon) =
-      steady_both (expr_events condition) (stmts_box_events body ++ (elsifs_events elsifs ++ stmts_box_events other)) (expr_steady condition)
-      (steady_both (stmts_box_events body) (elsifs_events elsifs ++ stmts_box_events other) (stmts_box_steady body)
-      (steady_both (elsifs_events elsifs) (stmts_box_events other) (elsifs_steady elsifs) (stmts_box_steady other)))
-  stmt_steady (stmt.Case' pos selecting is _ first _ rest end end_case semicolon) =
-      steady_both (expr_events selecting) (when_box_events first ++ whens_events rest) (expr_steady selecting)
-      (steady_both (when_box_events first) (whens_events rest) (when_box_steady first) (whens_steady rest))
-  stmt_steady (stmt.Loop' pos _ body end end_loop semicolon) = stmts_box_steady body
-  stmt_steady (stmt.While' pos condition loop_word _ body end end_loop semicolon) =
-      steady_both (expr_events condition) (stmts_box_events body) (expr_steady condition) (stmts_box_steady body)
-  stmt_steady (stmt.For' pos parameter in_word reverse steps loop_word _ body end end_loop semicolon) =
-      around_steady (declares form.LoopParameter parameter ∷ (range_events steps ++ e.DeclarationsEnd ∷ [])) (stmts_box_events body)
+stmts_steady_laws : StatementLaws (record {
+  of_statements = λ s. Steady (stmts_events s);
+  of_statement_box = λ n row. Steady (stmt_box_events row);
+  of_statement_row = λ n row. Steady (stmt_list_events row);
+  of_statement = λ s. Steady (stmt_events s);
+  of_statements_box = λ n row. Steady (stmts_box_events row);
+  of_branches = λ n row. Steady (elsifs_events row);
+  of_branch = λ b. Steady (elsif_events b);
+  of_alternative_box = λ n row. Steady (when_box_events row);
+  of_alternatives = λ n row. Steady (whens_events row);
+  of_alternative = λ w. Steady (when_events w);
+})
+unfolding stmts_events stmt_box_events stmt_list_events stmt_events stmts_box_events elsifs_events elsif_events when_box_events whens_events when_events
+stmts_steady_laws = record {
+  statements_sequence = λ pos _ first _ rest by_first by_rest. steady_both (stmt_box_events first) (stmt_list_events rest) (by_first) (by_rest);
+  statement_box_end = steady_none;
+  statement_box_more = λ _ part rest by_part. by_part;
+  statement_row_end = steady_none;
+  statement_row_more = λ _ part rest by_part by_rest. steady_both (stmt_events part) (stmt_list_events rest) (by_part) (by_rest);
+  statement_null = λ pos semicolon. simple_steady (stmt.Null pos semicolon);
+  statement_assign = λ pos target becomes value semicolon. simple_steady (stmt.Assign pos target becomes value semicolon);
+  statement_call = λ pos called semicolon. simple_steady (stmt.Call pos called semicolon);
+  statement_exit = λ pos semicolon. simple_steady (stmt.Exit pos semicolon);
+  statement_exit_when = λ pos when_word condition semicolon. simple_steady (stmt.ExitWhen pos when_word condition semicolon);
+  statement_return = λ pos semicolon. simple_steady (stmt.Return pos semicolon);
+  statement_return_value = λ pos value semicolon. simple_steady (stmt.ReturnValue pos value semicolon);
+  statement_if = λ pos condition then_word _ body _ elsifs end end_if semicolon by_body by_elsifs. steady_both (expr_events condition) (stmts_box_events body ++ elsifs_events elsifs) (expr_steady condition)
+      (steady_both (stmts_box_events body) (elsifs_events elsifs) (by_body) (by_elsifs));
+  statement_if_else = λ pos condition then_word _ body _ elsifs otherwise _ other end end_if semicolon by_body by_elsifs by_other. steady_both (expr_events condition) (stmts_box_events body ++ (elsifs_events elsifs ++ stmts_box_events other)) (expr_steady condition)
+      (steady_both (stmts_box_events body) (elsifs_events elsifs ++ stmts_box_events other) (by_body)
+      (steady_both (elsifs_events elsifs) (stmts_box_events other) (by_elsifs) (by_other)));
+  statement_case = λ pos selecting is _ first _ rest end end_case semicolon by_first by_rest. steady_both (expr_events selecting) (when_box_events first ++ whens_events rest) (expr_steady selecting)
+      (steady_both (when_box_events first) (whens_events rest) (by_first) (by_rest));
+  statement_loop = λ pos _ body end end_loop semicolon by_body. by_body;
+  statement_while = λ pos condition loop_word _ body end end_loop semicolon by_body. steady_both (expr_events condition) (stmts_box_events body) (expr_steady condition) (by_body);
+  statement_for = λ pos parameter in_word reverse steps loop_word _ body end end_loop semicolon by_body. around_steady (declares form.LoopParameter parameter ∷ (range_events steps ++ e.DeclarationsEnd ∷ [])) (stmts_box_events body)
       (steady_flat (declares form.LoopParameter parameter ∷ (range_events steps ++ e.DeclarationsEnd ∷ []))
-      (ends_flat (range_events steps) (mild_flat (range_events steps) (range_mild steps)))) (stmts_box_steady body)
-  stmt_steady (stmt.Block' pos _ body end semicolon) = steady_region (stmts_box_events body) (stmts_box_steady body)
-  stmt_steady (stmt.DeclareBlock' pos items begin _ body end semicolon) =
-      around_steady (flat_map item_events items) (stmts_box_events body) (items_steady items) (stmts_box_steady body)
-  stmt_steady simple = simple_steady simple
-
-  stmts_box_steady : {n : _} (row : Row_of-Stmts n) → Steady (stmts_box_events row)
-  stmts_box_steady end_of-Stmts = steady_none
-  stmts_box_steady (more_of-Stmts part rest) = stmts_steady part
-
-  elsifs_steady : {n : _} (row : Row_of-Elsif n) → Steady (elsifs_events row)
-  elsifs_steady end_of-Elsif = steady_none
-  elsifs_steady (more_of-Elsif part rest) = steady_both (elsif_events part) (elsifs_events rest) (elsif_steady part) (elsifs_steady rest)
-
-  elsif_steady : (b : Elsif) → Steady (elsif_events b)
-  elsif_steady (branch.Branch' pos condition then_word _ body) =
-      steady_both (expr_events condition) (stmts_box_events body) (expr_steady condition) (stmts_box_steady body)
-
-  when_box_steady : {n : _} (row : Row_of-When n) → Steady (when_box_events row)
-  when_box_steady end_of-When = steady_none
-  when_box_steady (more_of-When part rest) = when_steady part
-
-  whens_steady : {n : _} (row : Row_of-When n) → Steady (whens_events row)
-  whens_steady end_of-When = steady_none
-  whens_steady (more_of-When part rest) = steady_both (when_events part) (whens_events rest) (when_steady part) (whens_steady rest)
-
-  when_steady : (w : When) → Steady (when_events w)
-  when_steady (alternative.Alternative' pos first rest arrow _ body) =
-      steady_both (choice_events first) (flat_map next_choice_events rest ++ stmts_box_events body)
+      (ends_flat (range_events steps) (mild_flat (range_events steps) (range_mild steps)))) (by_body);
+  statement_block = λ pos _ body end semicolon by_body. steady_region (stmts_box_events body) (by_body);
+  statement_declare_block = λ pos items begin _ body end semicolon by_body. around_steady (flat_map item_events items) (stmts_box_events body) (items_steady items) (by_body);
+  statements_box_end = steady_none;
+  statements_box_more = λ _ part rest by_part. by_part;
+  branches_end = steady_none;
+  branches_more = λ _ part rest by_part by_rest. steady_both (elsif_events part) (elsifs_events rest) (by_part) (by_rest);
+  branch_branch = λ pos condition then_word _ body by_body. steady_both (expr_events condition) (stmts_box_events body) (expr_steady condition) (by_body);
+  alternative_box_end = steady_none;
+  alternative_box_more = λ _ part rest by_part. by_part;
+  alternatives_end = steady_none;
+  alternatives_more = λ _ part rest by_part by_rest. steady_both (when_events part) (whens_events rest) (by_part) (by_rest);
+  alternative_alternative = λ pos first rest arrow _ body by_body. steady_both (choice_events first) (flat_map next_choice_events rest ++ stmts_box_events body)
       (steady_flat (choice_events first) (mild_flat (choice_events first) (choice_mild first)))
       (steady_both (flat_map next_choice_events rest) (stmts_box_events body)
       (steady_flat (flat_map next_choice_events rest) (mild_flat (flat_map next_choice_events rest) (mild_each next_choice_events next_choice_mild rest)))
-      (stmts_box_steady body))
+      (by_body));
+}
+
+pub stmts_steady : (s : Stmts) → Steady (stmts_events s)
+stmts_steady = on_statements stmts_steady_laws

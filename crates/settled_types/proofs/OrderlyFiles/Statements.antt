@@ -26,6 +26,7 @@ use Rattle.name_events.specs.Known.{Known, part_here, part_of}
 use Rattle.name_events.specs.KnownBehind.{known_behind, known_behind_all}
 use Rattle.expression_lowering.specs.LoweredExpressions.{Numbers, number_of}
 use Rattle.tree_lowering.specs.Lowered.{lowered_declaration, item_before, lowered_items, lowered_simple, lowered_stmts, lowered_stmt_box, stmts_row, lowered_stmt, lowered_stmts_box, elsifs_row, lowered_elsif, lowered_when_box, whens_row, lowered_when}
+use Rattle.settled_types.proofs.StatementCases.{StatementLaws, on_statements}
 use Rattle.settled_types.specs.Orderly.{Past, past_after, IsNew, Orderly}
 use Rattle.settled_types.specs.OrderlyFiles.Regions.{AreRegions, AreTypes}
 use Rattle.settled_types.specs.OrderlyFiles.Numbered.{AreNumbered, are_mild, AreNewAt}
@@ -185,37 +186,41 @@ module _ (count : ℕ) (numbers : Numbers) where
       none_goes past (simple_events s) (simple_mild s)
   simple_goes s past = none_goes past (simple_events s) (simple_mild s)
 
-  mutual
-    unfolding lowered_stmts lowered_stmt_box stmts_row lowered_stmt lowered_stmts_box elsifs_row lowered_elsif lowered_when_box whens_row lowered_when stmts_events stmt_box_events stmt_list_events stmt_events stmts_box_events elsifs_events elsif_events when_box_events whens_events when_events Orderly past_after AreEnded
-
-    pub stmts_go : (tree : Stmts) (past : Past) → AreEnded past (lowered_stmts numbers tree)
-        → Goes (Orderly count past (lowered_stmts numbers tree)) past (past_after (lowered_stmts numbers tree) past) (stmts_events tree)
-    stmts_go (stmts.Sequence' pos _ first _ rest) past ended =
-        let a : Code = lowered_stmt_box numbers first in
+  stmts_go_laws : StatementLaws (record {
+    of_statements = λ tree. (past : Past) → AreEnded past (lowered_stmts numbers tree) → Goes (Orderly count past (lowered_stmts numbers tree)) past (past_after (lowered_stmts numbers tree) past) (stmts_events tree);
+    of_statement_box = λ n row. (past : Past) → AreEnded past (lowered_stmt_box numbers row) → Goes (Orderly count past (lowered_stmt_box numbers row)) past (past_after (lowered_stmt_box numbers row) past) (stmt_box_events row);
+    of_statement_row = λ n row. (past : Past) → AreEnded past (code_list (stmts_row numbers row)) → Goes (Orderly count past (code_list (stmts_row numbers row))) past (past_after (code_list (stmts_row numbers row)) past) (stmt_list_events row);
+    of_statement = λ tree. (past : Past) → AreEnded past (lowered_stmt numbers tree) → Goes (Orderly count past (lowered_stmt numbers tree)) past (past_after (lowered_stmt numbers tree) past) (stmt_events tree);
+    of_statements_box = λ n row. (past : Past) → AreEnded past (lowered_stmts_box numbers row) → Goes (Orderly count past (lowered_stmts_box numbers row)) past (past_after (lowered_stmts_box numbers row) past) (stmts_box_events row);
+    of_branches = λ n row. (past : Past) → AreEnded past (code_list (elsifs_row numbers row)) → Goes (Orderly count past (code_list (elsifs_row numbers row))) past (past_after (code_list (elsifs_row numbers row)) past) (elsifs_events row);
+    of_branch = λ tree. (past : Past) → AreEnded past (lowered_elsif numbers tree) → Goes (Orderly count past (lowered_elsif numbers tree)) past (past_after (lowered_elsif numbers tree) past) (elsif_events tree);
+    of_alternative_box = λ n row. (past : Past) → AreEnded past (lowered_when_box numbers row) → Goes (Orderly count past (lowered_when_box numbers row)) past (past_after (lowered_when_box numbers row) past) (when_box_events row);
+    of_alternatives = λ n row. (past : Past) → AreEnded past (code_list (whens_row numbers row)) → Goes (Orderly count past (code_list (whens_row numbers row))) past (past_after (code_list (whens_row numbers row)) past) (whens_events row);
+    of_alternative = λ tree. (past : Past) → AreEnded past (lowered_when numbers tree) → Goes (Orderly count past (lowered_when numbers tree)) past (past_after (lowered_when numbers tree) past) (when_events tree);
+  })
+  unfolding lowered_stmts lowered_stmt_box stmts_row lowered_stmt lowered_stmts_box elsifs_row lowered_elsif lowered_when_box whens_row lowered_when stmts_events stmt_box_events stmt_list_events stmt_events stmts_box_events elsifs_events elsif_events when_box_events whens_events when_events Orderly past_after AreEnded
+  stmts_go_laws = record {
+    statements_sequence = λ pos _ first _ rest by_first by_rest past ended. let a : Code = lowered_stmt_box numbers first in
         let b : Code = code_list (stmts_row numbers rest) in
         let q : Past = past_after a past in
         goes_then (Orderly count past a) (Orderly count q b) past q (past_after b q) (stmt_box_events first) (stmt_list_events rest)
-        (stmt_box_goes first past ended.0) (row_goes rest q ended.1)
-
-    stmt_box_goes : {n : _} (row : Row_of-Stmt n) (past : Past) → AreEnded past (lowered_stmt_box numbers row)
-        → Goes (Orderly count past (lowered_stmt_box numbers row)) past (past_after (lowered_stmt_box numbers row) past) (stmt_box_events row)
-    stmt_box_goes end_of-Stmt past ended = none_goes past [] refl
-    stmt_box_goes (more_of-Stmt part rest) past ended = stmt_goes part past ended
-
-    row_goes : {n : _} (row : Row_of-Stmt n) (past : Past) → AreEnded past (code_list (stmts_row numbers row))
-        → Goes (Orderly count past (code_list (stmts_row numbers row))) past (past_after (code_list (stmts_row numbers row)) past) (stmt_list_events row)
-    row_goes end_of-Stmt past ended = none_goes past [] refl
-    row_goes (more_of-Stmt part rest) past ended =
-        let a : Code = lowered_stmt numbers part in
+        (by_first past ended.0) (by_rest q ended.1);
+    statement_box_end = λ past ended. none_goes past [] refl;
+    statement_box_more = λ _ part rest by_part past ended. by_part past ended;
+    statement_row_end = λ past ended. none_goes past [] refl;
+    statement_row_more = λ _ part rest by_part by_rest past ended. let a : Code = lowered_stmt numbers part in
         let b : Code = code_list (stmts_row numbers rest) in
         let q : Past = past_after a past in
         goes_then (Orderly count past a) (Orderly count q b) past q (past_after b q) (stmt_events part) (stmt_list_events rest)
-        (stmt_goes part past ended.0) (row_goes rest q ended.1)
-
-    stmt_goes : (tree : Stmt) (past : Past) → AreEnded past (lowered_stmt numbers tree)
-        → Goes (Orderly count past (lowered_stmt numbers tree)) past (past_after (lowered_stmt numbers tree) past) (stmt_events tree)
-    stmt_goes (stmt.If' pos condition then_word _ body _ elsifs end end_if semicolon) past ended =
-        let a : Code = lowered_stmts_box numbers body in
+        (by_part past ended.0) (by_rest q ended.1);
+    statement_null = λ pos semicolon past ended. simple_goes (stmt.Null pos semicolon) past;
+    statement_assign = λ pos target becomes value semicolon past ended. simple_goes (stmt.Assign pos target becomes value semicolon) past;
+    statement_call = λ pos called semicolon past ended. simple_goes (stmt.Call pos called semicolon) past;
+    statement_exit = λ pos semicolon past ended. simple_goes (stmt.Exit pos semicolon) past;
+    statement_exit_when = λ pos when_word condition semicolon past ended. simple_goes (stmt.ExitWhen pos when_word condition semicolon) past;
+    statement_return = λ pos semicolon past ended. simple_goes (stmt.Return pos semicolon) past;
+    statement_return_value = λ pos value semicolon past ended. simple_goes (stmt.ReturnValue pos value semicolon) past;
+    statement_if = λ pos condition then_word _ body _ elsifs end end_if semicolon by_body by_elsifs past ended. let a : Code = lowered_stmts_box numbers body in
         let b : Code = code_list (elsifs_row numbers elsifs) in
         let q : Past = past_after a past in
         let r : Past = past_after b q in
@@ -223,10 +228,9 @@ module _ (count : ℕ) (numbers : Numbers) where
         let xs : List Event = stmts_box_events body ++ elsifs_events elsifs in
         goes_after (two × Unit {0}) past r (expr_events condition) xs (expr_mild condition)
         (goes_so two (two × Unit {0}) past r xs (λ o. (o, tt))
-        (goes_then (Orderly count past a) (Orderly count q b) past q r (stmts_box_events body) (elsifs_events elsifs) (stmts_box_goes body past ended.0.0)
-        (elsifs_go elsifs q ended.0.1)))
-    stmt_goes (stmt.IfElse' pos condition then_word _ body _ elsifs otherwise _ other end end_if semicolon) past ended =
-        let a : Code = lowered_stmts_box numbers body in
+        (goes_then (Orderly count past a) (Orderly count q b) past q r (stmts_box_events body) (elsifs_events elsifs) (by_body past ended.0.0)
+        (by_elsifs q ended.0.1)));
+    statement_if_else = λ pos condition then_word _ body _ elsifs otherwise _ other end end_if semicolon by_body by_elsifs by_other past ended. let a : Code = lowered_stmts_box numbers body in
         let b : Code = code_list (elsifs_row numbers elsifs) in
         let c : Code = lowered_stmts_box numbers other in
         let q : Past = past_after a past in
@@ -237,83 +241,60 @@ module _ (count : ℕ) (numbers : Numbers) where
         let three : Type 0 = Orderly count past a × Orderly count q b in
         goes_after (three × Orderly count r c) past s (expr_events condition) xs (expr_mild condition)
         (goes_so (Orderly count past a × (Orderly count q b × Orderly count r c)) (three × Orderly count r c) past s xs (λ o. ((o.0, o.1.0), o.1.1))
-        (goes_then (Orderly count past a) (Orderly count q b × Orderly count r c) past q s (stmts_box_events body) ys (stmts_box_goes body past ended.0.0)
-        (goes_then (Orderly count q b) (Orderly count r c) q r s (elsifs_events elsifs) (stmts_box_events other) (elsifs_go elsifs q ended.0.1)
-        (stmts_box_goes other r ended.1))))
-    stmt_goes (stmt.Case' pos selecting is _ first _ rest end end_case semicolon) past ended =
-        let a : Code = lowered_when_box numbers first in
+        (goes_then (Orderly count past a) (Orderly count q b × Orderly count r c) past q s (stmts_box_events body) ys (by_body past ended.0.0)
+        (goes_then (Orderly count q b) (Orderly count r c) q r s (elsifs_events elsifs) (stmts_box_events other) (by_elsifs q ended.0.1)
+        (by_other r ended.1))));
+    statement_case = λ pos selecting is _ first _ rest end end_case semicolon by_first by_rest past ended. let a : Code = lowered_when_box numbers first in
         let b : Code = code_list (whens_row numbers rest) in
         let q : Past = past_after a past in
         let r : Past = past_after b q in
         goes_after (Orderly count past a × Orderly count q b) past r (expr_events selecting) (when_box_events first ++ whens_events rest) (expr_mild selecting)
-        (goes_then (Orderly count past a) (Orderly count q b) past q r (when_box_events first) (whens_events rest) (when_box_goes first past ended.0)
-        (whens_go rest q ended.1))
-    stmt_goes (stmt.Loop' pos _ body end end_loop semicolon) past ended = stmts_box_goes body past ended
-    stmt_goes (stmt.While' pos condition loop_word _ body end end_loop semicolon) past ended =
-        let a : Code = lowered_stmts_box numbers body in
+        (goes_then (Orderly count past a) (Orderly count q b) past q r (when_box_events first) (whens_events rest) (by_first past ended.0)
+        (by_rest q ended.1));
+    statement_loop = λ pos _ body end end_loop semicolon by_body past ended. by_body past ended;
+    statement_while = λ pos condition loop_word _ body end end_loop semicolon by_body past ended. let a : Code = lowered_stmts_box numbers body in
         goes_after (Orderly count past a) past (past_after a past) (expr_events condition) (stmts_box_events body) (expr_mild condition)
-        (stmts_box_goes body past ended)
-    stmt_goes (stmt.For' pos parameter in_word reverse steps loop_word _ body end end_loop semicolon) past ended =
-        let a : Code = lowered_stmts_box numbers body in
+        (by_body past ended);
+    statement_for = λ pos parameter in_word reverse steps loop_word _ body end end_loop semicolon by_body past ended. let a : Code = lowered_stmts_box numbers body in
         let xs : List Event = declares form.LoopParameter parameter ∷ (range_events steps ++ e.DeclarationsEnd ∷ []) in
         goes_regions (IsNew count (number_of numbers parameter) past) (Orderly count past a) past past (past_after a past) xs (stmts_box_events body)
         (goes_mild (IsNew count (number_of numbers parameter) past) past xs (mild_both (range_events steps) (e.DeclarationsEnd ∷ []) (range_mild steps) refl)
-        (λ new. new.0)) (stmts_box_goes body past ended)
-    stmt_goes (stmt.Block' pos _ body end semicolon) past ended =
-        let a : Code = lowered_stmts_box numbers body in
+        (λ new. new.0)) (by_body past ended);
+    statement_block = λ pos _ body end semicolon by_body past ended. let a : Code = lowered_stmts_box numbers body in
         let xs : List Event = stmts_box_events body in
         goes_so (Orderly count past a) (Unit {0} × Orderly count past a) past (past_after a past) (e.RegionOpens ∷ (xs ++ e.RegionCloses ∷ [])) (λ o. (tt, o))
-        (goes_region (Orderly count past a) past (past_after a past) xs (stmts_box_goes body past ended.1))
-    stmt_goes (stmt.DeclareBlock' pos items begin _ body end semicolon) past ended =
-        let a : Code = lowered_items numbers items in
+        (goes_region (Orderly count past a) past (past_after a past) xs (by_body past ended.1));
+    statement_declare_block = λ pos items begin _ body end semicolon by_body past ended. let a : Code = lowered_items numbers items in
         let b : Code = lowered_stmts_box numbers body in
         let q : Past = past_after a past in
         goes_regions (Orderly count past a) (Orderly count q b) past q (past_after b q) (flat_map item_events items) (stmts_box_events body)
-        (items_go items past ended.0) (stmts_box_goes body q ended.1)
-    stmt_goes simple past ended = simple_goes simple past
-
-    stmts_box_goes : {n : _} (row : Row_of-Stmts n) (past : Past) → AreEnded past (lowered_stmts_box numbers row)
-        → Goes (Orderly count past (lowered_stmts_box numbers row)) past (past_after (lowered_stmts_box numbers row) past) (stmts_box_events row)
-    stmts_box_goes end_of-Stmts past ended = none_goes past [] refl
-    stmts_box_goes (more_of-Stmts part rest) past ended = stmts_go part past ended
-
-    elsifs_go : {n : _} (row : Row_of-Elsif n) (past : Past) → AreEnded past (code_list (elsifs_row numbers row))
-        → Goes (Orderly count past (code_list (elsifs_row numbers row))) past (past_after (code_list (elsifs_row numbers row)) past) (elsifs_events row)
-    elsifs_go end_of-Elsif past ended = none_goes past [] refl
-    elsifs_go (more_of-Elsif part rest) past ended =
-        let a : Code = lowered_elsif numbers part in
+        (items_go items past ended.0) (by_body q ended.1);
+    statements_box_end = λ past ended. none_goes past [] refl;
+    statements_box_more = λ _ part rest by_part past ended. by_part past ended;
+    branches_end = λ past ended. none_goes past [] refl;
+    branches_more = λ _ part rest by_part by_rest past ended. let a : Code = lowered_elsif numbers part in
         let b : Code = code_list (elsifs_row numbers rest) in
         let q : Past = past_after a past in
         goes_then (Orderly count past a) (Orderly count q b) past q (past_after b q) (elsif_events part) (elsifs_events rest)
-        (elsif_goes part past ended.0) (elsifs_go rest q ended.1)
-
-    elsif_goes : (tree : Elsif) (past : Past) → AreEnded past (lowered_elsif numbers tree)
-        → Goes (Orderly count past (lowered_elsif numbers tree)) past (past_after (lowered_elsif numbers tree) past) (elsif_events tree)
-    elsif_goes (branch.Branch' pos condition then_word _ body) past ended =
-        let a : Code = lowered_stmts_box numbers body in
+        (by_part past ended.0) (by_rest q ended.1);
+    branch_branch = λ pos condition then_word _ body by_body past ended. let a : Code = lowered_stmts_box numbers body in
         goes_after (Orderly count past a) past (past_after a past) (expr_events condition) (stmts_box_events body) (expr_mild condition)
-        (stmts_box_goes body past ended)
-
-    when_box_goes : {n : _} (row : Row_of-When n) (past : Past) → AreEnded past (lowered_when_box numbers row)
-        → Goes (Orderly count past (lowered_when_box numbers row)) past (past_after (lowered_when_box numbers row) past) (when_box_events row)
-    when_box_goes end_of-When past ended = none_goes past [] refl
-    when_box_goes (more_of-When part rest) past ended = when_goes part past ended
-
-    whens_go : {n : _} (row : Row_of-When n) (past : Past) → AreEnded past (code_list (whens_row numbers row))
-        → Goes (Orderly count past (code_list (whens_row numbers row))) past (past_after (code_list (whens_row numbers row)) past) (whens_events row)
-    whens_go end_of-When past ended = none_goes past [] refl
-    whens_go (more_of-When part rest) past ended =
-        let a : Code = lowered_when numbers part in
+        (by_body past ended);
+    alternative_box_end = λ past ended. none_goes past [] refl;
+    alternative_box_more = λ _ part rest by_part past ended. by_part past ended;
+    alternatives_end = λ past ended. none_goes past [] refl;
+    alternatives_more = λ _ part rest by_part by_rest past ended. let a : Code = lowered_when numbers part in
         let b : Code = code_list (whens_row numbers rest) in
         let q : Past = past_after a past in
         goes_then (Orderly count past a) (Orderly count q b) past q (past_after b q) (when_events part) (whens_events rest)
-        (when_goes part past ended.0) (whens_go rest q ended.1)
-
-    when_goes : (tree : When) (past : Past) → AreEnded past (lowered_when numbers tree)
-        → Goes (Orderly count past (lowered_when numbers tree)) past (past_after (lowered_when numbers tree) past) (when_events tree)
-    when_goes (alternative.Alternative' pos first rest arrow _ body) past ended =
-        let a : Code = lowered_stmts_box numbers body in
+        (by_part past ended.0) (by_rest q ended.1);
+    alternative_alternative = λ pos first rest arrow _ body by_body past ended. let a : Code = lowered_stmts_box numbers body in
         let xs : List Event = flat_map next_choice_events rest ++ stmts_box_events body in
         goes_after (Orderly count past a) past (past_after a past) (choice_events first) xs (choice_mild first)
         (goes_after (Orderly count past a) past (past_after a past) (flat_map next_choice_events rest) (stmts_box_events body)
-        (mild_each next_choice_events next_choice_mild rest) (stmts_box_goes body past ended))
+        (mild_each next_choice_events next_choice_mild rest) (by_body past ended));
+  }
+
+  pub stmts_go : (tree : Stmts) (past : Past) → AreEnded past (lowered_stmts numbers tree)
+      → Goes (Orderly count past (lowered_stmts numbers tree)) past (past_after (lowered_stmts numbers tree) past) (stmts_events tree)
+  stmts_go = on_statements stmts_go_laws

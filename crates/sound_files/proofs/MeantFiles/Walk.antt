@@ -70,6 +70,7 @@ use Rattle.name_events.specs.Laws.{is_mention}
 use Rattle.tree_lowering.specs.Lowered.{declared_next, declared_all, lowered_indication, lowered_subtype, lowered_type, lowered_declaration, item_before, before_all, lowered_items, lowered_simple, lowered_stmts, lowered_stmt_box, stmts_row, lowered_stmt, lowered_stmts_box, elsifs_row, lowered_elsif, lowered_when_box, whens_row, lowered_when, lowered_formal, lowered_next_formal, lowered_formals, lowered_subspec, lowered_subprogram, decl_before, part_before, lowered_decls, lowered_private, lowered_package, lowered_package_body, lowered_unit, lowered_files}
 use Rattle.machine.specs.type_definitions.Gathered.{front_number}
 use Rattle.machine.specs.typed_tree.Programs.{bodies_in}
+use Rattle.settled_types.proofs.StatementCases.{StatementLaws, on_statements}
 use Rattle.sound_files.specs.MeantFiles.Declarations.{Declarations, each_as, group_declarations, formal_declarations, front_declarations, body_form, declarations, declared_by, HasBodies, last_from, IsLow, IsLowIndication, IsLowRange, IsLowGroup, AreLowGroups, IsLowFront, AreLow, AllLow}
 use Rattle.sound_files.specs.MeantFiles.Followed.{IsFollowed, AreFollowed}
 use Rattle.settled_types.proofs.OrderlyFiles.Steps.{completes_nothing}
@@ -375,65 +376,59 @@ module _ (numbers : Numbers) where
     low = parameter_low parameter steps;
   }
 
-  mutual
-    unfolding AreLow lowered_stmts lowered_stmt_box stmts_row lowered_stmt lowered_stmts_box elsifs_row lowered_elsif lowered_when_box whens_row lowered_when stmts_events stmt_box_events stmt_list_events stmt_events stmts_box_events elsifs_events elsif_events when_box_events whens_events when_events
-
-    stmts_go : (tree : Stmts) → Walks (stmts_events tree) (lowered_stmts numbers tree)
-    stmts_go (stmts.Sequence' pos _ first _ rest) = both (stmt_box_go first) (row_go rest)
-
-    stmt_box_go : {n : _} (row : Row_of-Stmt n) → Walks (stmt_box_events row) (lowered_stmt_box numbers row)
-    stmt_box_go end_of-Stmt = none refl
-    stmt_box_go (more_of-Stmt part rest) = stmt_go part
-
-    row_go : {n : _} (row : Row_of-Stmt n) → Walks (stmt_list_events row) (code_list (stmts_row numbers row))
-    row_go end_of-Stmt = none refl
-    row_go (more_of-Stmt part rest) = both (stmt_go part) (row_go rest)
-
-    stmt_go : (tree : Stmt) → Walks (stmt_events tree) (lowered_stmt numbers tree)
-    stmt_go (stmt.If' pos condition then_word _ body _ elsifs end end_if semicolon) =
-        after (expr_events condition) (expr_silent numbers condition)
+  stmts_go_laws : StatementLaws (record {
+    of_statements = λ tree. Walks (stmts_events tree) (lowered_stmts numbers tree);
+    of_statement_box = λ n row. Walks (stmt_box_events row) (lowered_stmt_box numbers row);
+    of_statement_row = λ n row. Walks (stmt_list_events row) (code_list (stmts_row numbers row));
+    of_statement = λ tree. Walks (stmt_events tree) (lowered_stmt numbers tree);
+    of_statements_box = λ n row. Walks (stmts_box_events row) (lowered_stmts_box numbers row);
+    of_branches = λ n row. Walks (elsifs_events row) (code_list (elsifs_row numbers row));
+    of_branch = λ tree. Walks (elsif_events tree) (lowered_elsif numbers tree);
+    of_alternative_box = λ n row. Walks (when_box_events row) (lowered_when_box numbers row);
+    of_alternatives = λ n row. Walks (whens_events row) (code_list (whens_row numbers row));
+    of_alternative = λ tree. Walks (when_events tree) (lowered_when numbers tree);
+  })
+  unfolding AreLow lowered_stmts lowered_stmt_box stmts_row lowered_stmt lowered_stmts_box elsifs_row lowered_elsif lowered_when_box whens_row lowered_when stmts_events stmt_box_events stmt_list_events stmt_events stmts_box_events elsifs_events elsif_events when_box_events whens_events when_events
+  stmts_go_laws = record {
+    statements_sequence = λ pos _ first _ rest by_first by_rest. both (by_first) (by_rest);
+    statement_box_end = none refl;
+    statement_box_more = λ _ part rest by_part. by_part;
+    statement_row_end = none refl;
+    statement_row_more = λ _ part rest by_part by_rest. both (by_part) (by_rest);
+    statement_null = λ pos semicolon. simple_go (stmt.Null pos semicolon);
+    statement_assign = λ pos target becomes value semicolon. simple_go (stmt.Assign pos target becomes value semicolon);
+    statement_call = λ pos called semicolon. simple_go (stmt.Call pos called semicolon);
+    statement_exit = λ pos semicolon. simple_go (stmt.Exit pos semicolon);
+    statement_exit_when = λ pos when_word condition semicolon. simple_go (stmt.ExitWhen pos when_word condition semicolon);
+    statement_return = λ pos semicolon. simple_go (stmt.Return pos semicolon);
+    statement_return_value = λ pos value semicolon. simple_go (stmt.ReturnValue pos value semicolon);
+    statement_if = λ pos condition then_word _ body _ elsifs end end_if semicolon by_body by_elsifs. after (expr_events condition) (expr_silent numbers condition)
         (change (sym (append_nothing (declarations (lowered_stmts_box numbers body) ++ declarations (code_list (elsifs_row numbers elsifs))))) (λ a. (a, tt))
-        (both (stmts_box_go body) (elsifs_go elsifs)))
-    stmt_go (stmt.IfElse' pos condition then_word _ body _ elsifs otherwise _ other end end_if semicolon) =
-        after (expr_events condition) (expr_silent numbers condition)
+        (both (by_body) (by_elsifs)));
+    statement_if_else = λ pos condition then_word _ body _ elsifs otherwise _ other end end_if semicolon by_body by_elsifs by_other. after (expr_events condition) (expr_silent numbers condition)
         (change (sym (append_assoc (declarations (lowered_stmts_box numbers body)) (declarations (code_list (elsifs_row numbers elsifs))) (declarations (lowered_stmts_box numbers other))))
-        (λ a. ((a.0, a.1.0), a.1.1)) (both (stmts_box_go body) (both (elsifs_go elsifs) (stmts_box_go other))))
-    stmt_go (stmt.Case' pos selecting is _ first _ rest end end_case semicolon) =
-        after (expr_events selecting) (expr_silent numbers selecting) (both (when_box_go first) (whens_go rest))
-    stmt_go (stmt.Loop' pos _ body end end_loop semicolon) = stmts_box_go body
-    stmt_go (stmt.While' pos condition loop_word _ body end end_loop semicolon) =
-        after (expr_events condition) (expr_silent numbers condition) (stmts_box_go body)
-    stmt_go (stmt.For' pos parameter in_word reverse steps loop_word _ body end end_loop semicolon) =
-        both (parameter_go parameter steps) (before (e.RegionCloses ∷ []) refl (stmts_box_go body))
-    stmt_go (stmt.Block' pos _ body end semicolon) =
-        after (e.RegionOpens ∷ []) refl (before (e.RegionCloses ∷ []) refl (change refl (λ a. (tt, a)) (stmts_box_go body)))
-    stmt_go (stmt.DeclareBlock' pos items begin _ body end semicolon) =
-        both (after (e.RegionOpens ∷ []) refl (items_go items)) (before (e.RegionCloses ∷ []) refl (stmts_box_go body))
-    stmt_go simple = simple_go simple
+        (λ a. ((a.0, a.1.0), a.1.1)) (both (by_body) (both (by_elsifs) (by_other))));
+    statement_case = λ pos selecting is _ first _ rest end end_case semicolon by_first by_rest. after (expr_events selecting) (expr_silent numbers selecting) (both (by_first) (by_rest));
+    statement_loop = λ pos _ body end end_loop semicolon by_body. by_body;
+    statement_while = λ pos condition loop_word _ body end end_loop semicolon by_body. after (expr_events condition) (expr_silent numbers condition) (by_body);
+    statement_for = λ pos parameter in_word reverse steps loop_word _ body end end_loop semicolon by_body. both (parameter_go parameter steps) (before (e.RegionCloses ∷ []) refl (by_body));
+    statement_block = λ pos _ body end semicolon by_body. after (e.RegionOpens ∷ []) refl (before (e.RegionCloses ∷ []) refl (change refl (λ a. (tt, a)) (by_body)));
+    statement_declare_block = λ pos items begin _ body end semicolon by_body. both (after (e.RegionOpens ∷ []) refl (items_go items)) (before (e.RegionCloses ∷ []) refl (by_body));
+    statements_box_end = none refl;
+    statements_box_more = λ _ part rest by_part. by_part;
+    branches_end = none refl;
+    branches_more = λ _ part rest by_part by_rest. both (by_part) (by_rest);
+    branch_branch = λ pos condition then_word _ body by_body. after (expr_events condition) (expr_silent numbers condition) (by_body);
+    alternative_box_end = none refl;
+    alternative_box_more = λ _ part rest by_part. by_part;
+    alternatives_end = none refl;
+    alternatives_more = λ _ part rest by_part by_rest. both (by_part) (by_rest);
+    alternative_alternative = λ pos first rest arrow _ body by_body. after (choice_events first) (choice_silent numbers first)
+        (after (flat_map next_choice_events rest) (silent_each numbers next_choice_events (next_choice_silent numbers) rest) (by_body));
+  }
 
-    stmts_box_go : {n : _} (row : Row_of-Stmts n) → Walks (stmts_box_events row) (lowered_stmts_box numbers row)
-    stmts_box_go end_of-Stmts = none refl
-    stmts_box_go (more_of-Stmts part rest) = stmts_go part
-
-    elsifs_go : {n : _} (row : Row_of-Elsif n) → Walks (elsifs_events row) (code_list (elsifs_row numbers row))
-    elsifs_go end_of-Elsif = none refl
-    elsifs_go (more_of-Elsif part rest) = both (elsif_go part) (elsifs_go rest)
-
-    elsif_go : (tree : Elsif) → Walks (elsif_events tree) (lowered_elsif numbers tree)
-    elsif_go (branch.Branch' pos condition then_word _ body) = after (expr_events condition) (expr_silent numbers condition) (stmts_box_go body)
-
-    when_box_go : {n : _} (row : Row_of-When n) → Walks (when_box_events row) (lowered_when_box numbers row)
-    when_box_go end_of-When = none refl
-    when_box_go (more_of-When part rest) = when_go part
-
-    whens_go : {n : _} (row : Row_of-When n) → Walks (whens_events row) (code_list (whens_row numbers row))
-    whens_go end_of-When = none refl
-    whens_go (more_of-When part rest) = both (when_go part) (whens_go rest)
-
-    when_go : (tree : When) → Walks (when_events tree) (lowered_when numbers tree)
-    when_go (alternative.Alternative' pos first rest arrow _ body) =
-        after (choice_events first) (choice_silent numbers first)
-        (after (flat_map next_choice_events rest) (silent_each numbers next_choice_events (next_choice_silent numbers) rest) (stmts_box_go body))
+  stmts_go : (tree : Stmts) → Walks (stmts_events tree) (lowered_stmts numbers tree)
+  stmts_go = on_statements stmts_go_laws
 
   -- ---- subprograms
 

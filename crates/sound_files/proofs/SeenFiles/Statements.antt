@@ -40,6 +40,7 @@ use Rattle.machine.specs.resolved_tree.Trees.{Code, code_list}
 use Rattle.machine.specs.resolved_tree.Trees as t
 use Rattle.expression_lowering.specs.LoweredExpressions.{Numbers, number_of, lowered_name, lowered_expr, lowered_range}
 use Rattle.tree_lowering.specs.Lowered.{declared_next, declared_all, lowered_subtype, lowered_type, lowered_declaration, item_before, lowered_items, lowered_simple, lowered_stmts, lowered_stmt_box, stmts_row, lowered_stmt, lowered_stmts_box, elsifs_row, lowered_elsif, lowered_when_box, whens_row, lowered_when}
+use Rattle.settled_types.proofs.StatementCases.{StatementLaws, on_statements}
 use Rattle.sound_files.specs.SeenFiles.Uses.{Uses, AreAllowed}
 use Rattle.sound_files.specs.SeenFiles.Fits.{all_numbers, scope_after, IsKept, AreObjects, RangeFits, Fits, AreFitting, IsFitting}
 use Rattle.sound_files.specs.SeenFiles.Reached.{is_object_form, IsObjectIn}
@@ -313,41 +314,48 @@ module _ (numbers : Numbers) (whole : Known) where
       (goes_first numbers whole two s (n ∷ []) s (n ∷ []) (n ∷ s) [] xs end
       (goes_speaks numbers whole two s (n ∷ []) xs (range_speaks numbers (IsObjectIn whole) s steps)) (goes_ends numbers whole s (n ∷ [])))
 
-  mutual
-    unfolding lowered_stmts lowered_stmt_box stmts_row lowered_stmt lowered_stmts_box elsifs_row lowered_elsif lowered_when_box whens_row lowered_when stmts_events stmt_box_events stmt_list_events stmt_events stmts_box_events elsifs_events elsif_events when_box_events whens_events when_events Fits AreFitting IsFitting scope_after
-
-    pub stmts_fit : (tree : Stmts) (s : List ℕ) → Stays s (Fit s (lowered_stmts numbers tree)) (stmts_events tree)
-    stmts_fit (stmts.Sequence' pos _ first _ rest) s =
-        let a : Code = lowered_stmt_box numbers first in
+  stmts_fit_laws : StatementLaws (record {
+    of_statements = λ tree. (s : List ℕ) → Stays s (Fit s (lowered_stmts numbers tree)) (stmts_events tree);
+    of_statement_box = λ n row. (s : List ℕ) → Stays s (Fit s (lowered_stmt_box numbers row)) (stmt_box_events row);
+    of_statement_row = λ n row. (s : List ℕ) → Stays s (Fit s (code_list (stmts_row numbers row))) (stmt_list_events row);
+    of_statement = λ tree. (s : List ℕ) → Stays s (Fit s (lowered_stmt numbers tree)) (stmt_events tree);
+    of_statements_box = λ n row. (s : List ℕ) → Stays s (Fit s (lowered_stmts_box numbers row)) (stmts_box_events row);
+    of_branches = λ n row. (s : List ℕ) → Stays s (AreFitting (IsObjectIn whole) s (code_list (elsifs_row numbers row))) (elsifs_events row);
+    of_branch = λ tree. (s : List ℕ) → Stays s (IsFitting (IsObjectIn whole) s (lowered_elsif numbers tree)) (elsif_events tree);
+    of_alternative_box = λ n row. (s : List ℕ) → Stays s (IsFitting (IsObjectIn whole) s (lowered_when_box numbers row)) (when_box_events row);
+    of_alternatives = λ n row. (s : List ℕ) → Stays s (AreFitting (IsObjectIn whole) s (code_list (whens_row numbers row))) (whens_events row);
+    of_alternative = λ tree. (s : List ℕ) → Stays s (IsFitting (IsObjectIn whole) s (lowered_when numbers tree)) (when_events tree);
+  })
+  unfolding lowered_stmts lowered_stmt_box stmts_row lowered_stmt lowered_stmts_box elsifs_row lowered_elsif lowered_when_box whens_row lowered_when stmts_events stmt_box_events stmt_list_events stmt_events stmts_box_events elsifs_events elsif_events when_box_events whens_events when_events Fits AreFitting IsFitting scope_after
+  stmts_fit_laws = record {
+    statements_sequence = λ pos _ first _ rest by_first by_rest s. let a : Code = lowered_stmt_box numbers first in
         let b : Code = code_list (stmts_row numbers rest) in
         stay_so s (Fit s a × Fit s b) (Fit s a × Fit (scope_after a s) b) (stmt_box_events first ++ stmt_list_events rest)
         (λ p. (p.0, subst (λ t. Fit t b) (sym (box_scope first s)) p.1))
-        (stay_both s (Fit s a) (Fit s b) (stmt_box_events first) (stmt_list_events rest) (stmt_box_fits first s) (row_fits rest s))
-
-    stmt_box_fits : {n : _} (row : Row_of-Stmt n) (s : List ℕ) → Stays s (Fit s (lowered_stmt_box numbers row)) (stmt_box_events row)
-    stmt_box_fits end_of-Stmt s = goes_nothing numbers whole s []
-    stmt_box_fits (more_of-Stmt part rest) s = stmt_fits part s
-
-    row_fits : {n : _} (row : Row_of-Stmt n) (s : List ℕ) → Stays s (Fit s (code_list (stmts_row numbers row))) (stmt_list_events row)
-    row_fits end_of-Stmt s = goes_nothing numbers whole s []
-    row_fits (more_of-Stmt part rest) s =
-        let a : Code = lowered_stmt numbers part in
+        (stay_both s (Fit s a) (Fit s b) (stmt_box_events first) (stmt_list_events rest) (by_first s) (by_rest s));
+    statement_box_end = λ s. goes_nothing numbers whole s [];
+    statement_box_more = λ _ part rest by_part s. by_part s;
+    statement_row_end = λ s. goes_nothing numbers whole s [];
+    statement_row_more = λ _ part rest by_part by_rest s. let a : Code = lowered_stmt numbers part in
         let b : Code = code_list (stmts_row numbers rest) in
         stay_so s (Fit s a × Fit s b) (Fit s a × Fit (scope_after a s) b) (stmt_events part ++ stmt_list_events rest)
         (λ p. (p.0, subst (λ t. Fit t b) (sym (stmt_scope part s)) p.1))
-        (stay_both s (Fit s a) (Fit s b) (stmt_events part) (stmt_list_events rest) (stmt_fits part s) (row_fits rest s))
-
-    stmt_fits : (tree : Stmt) (s : List ℕ) → Stays s (Fit s (lowered_stmt numbers tree)) (stmt_events tree)
-    stmt_fits (stmt.If' pos condition then_word _ body _ elsifs end end_if semicolon) s =
-        let one : Type 0 = Uses (IsKept (IsObjectIn whole) s) (lowered_expr numbers condition) in
+        (stay_both s (Fit s a) (Fit s b) (stmt_events part) (stmt_list_events rest) (by_part s) (by_rest s));
+    statement_null = λ pos semicolon s. simple_fits (stmt.Null pos semicolon) s;
+    statement_assign = λ pos target becomes value semicolon s. simple_fits (stmt.Assign pos target becomes value semicolon) s;
+    statement_call = λ pos called semicolon s. simple_fits (stmt.Call pos called semicolon) s;
+    statement_exit = λ pos semicolon s. simple_fits (stmt.Exit pos semicolon) s;
+    statement_exit_when = λ pos when_word condition semicolon s. simple_fits (stmt.ExitWhen pos when_word condition semicolon) s;
+    statement_return = λ pos semicolon s. simple_fits (stmt.Return pos semicolon) s;
+    statement_return_value = λ pos value semicolon s. simple_fits (stmt.ReturnValue pos value semicolon) s;
+    statement_if = λ pos condition then_word _ body _ elsifs end end_if semicolon by_body by_elsifs s. let one : Type 0 = Uses (IsKept (IsObjectIn whole) s) (lowered_expr numbers condition) in
         let two : Type 0 = Fit s (lowered_stmts_box numbers body) in
         let three : Type 0 = AreFitting (IsObjectIn whole) s (code_list (elsifs_row numbers elsifs)) in
         stay_so s (one × (two × three)) (((one × two) × three) × Unit {0}) (expr_events condition ++ (stmts_box_events body ++ elsifs_events elsifs))
         (λ p. (((p.0, p.1.0), p.1.1), tt))
         (stay_both s one (two × three) (expr_events condition) (stmts_box_events body ++ elsifs_events elsifs) (condition_stays s condition)
-        (stay_both s two three (stmts_box_events body) (elsifs_events elsifs) (stmts_box_fits body s) (elsifs_fit elsifs s)))
-    stmt_fits (stmt.IfElse' pos condition then_word _ body _ elsifs otherwise _ other end end_if semicolon) s =
-        let one : Type 0 = Uses (IsKept (IsObjectIn whole) s) (lowered_expr numbers condition) in
+        (stay_both s two three (stmts_box_events body) (elsifs_events elsifs) (by_body s) (by_elsifs s)));
+    statement_if_else = λ pos condition then_word _ body _ elsifs otherwise _ other end end_if semicolon by_body by_elsifs by_other s. let one : Type 0 = Uses (IsKept (IsObjectIn whole) s) (lowered_expr numbers condition) in
         let two : Type 0 = Fit s (lowered_stmts_box numbers body) in
         let three : Type 0 = AreFitting (IsObjectIn whole) s (code_list (elsifs_row numbers elsifs)) in
         let four : Type 0 = Fit s (lowered_stmts_box numbers other) in
@@ -355,72 +363,52 @@ module _ (numbers : Numbers) (whole : Known) where
         stay_so s (one × (two × (three × four))) (((one × two) × three) × four) (expr_events condition ++ (stmts_box_events body ++ ys))
         (λ p. (((p.0, p.1.0), p.1.1.0), p.1.1.1))
         (stay_both s one (two × (three × four)) (expr_events condition) (stmts_box_events body ++ ys) (condition_stays s condition)
-        (stay_both s two (three × four) (stmts_box_events body) ys (stmts_box_fits body s)
-        (stay_both s three four (elsifs_events elsifs) (stmts_box_events other) (elsifs_fit elsifs s) (stmts_box_fits other s))))
-    stmt_fits (stmt.Case' pos selecting is _ first _ rest end end_case semicolon) s =
-        let one : Type 0 = Uses (IsKept (IsObjectIn whole) s) (lowered_expr numbers selecting) in
+        (stay_both s two (three × four) (stmts_box_events body) ys (by_body s)
+        (stay_both s three four (elsifs_events elsifs) (stmts_box_events other) (by_elsifs s) (by_other s))));
+    statement_case = λ pos selecting is _ first _ rest end end_case semicolon by_first by_rest s. let one : Type 0 = Uses (IsKept (IsObjectIn whole) s) (lowered_expr numbers selecting) in
         let two : Type 0 = IsFitting (IsObjectIn whole) s (lowered_when_box numbers first) in
         let three : Type 0 = AreFitting (IsObjectIn whole) s (code_list (whens_row numbers rest)) in
         stay_both s one (two × three) (expr_events selecting) (when_box_events first ++ whens_events rest) (condition_stays s selecting)
-        (stay_both s two three (when_box_events first) (whens_events rest) (when_box_fits first s) (whens_fit rest s))
-    stmt_fits (stmt.Loop' pos _ body end end_loop semicolon) s = stmts_box_fits body s
-    stmt_fits (stmt.While' pos condition loop_word _ body end end_loop semicolon) s =
-        stay_both s (Uses (IsKept (IsObjectIn whole) s) (lowered_expr numbers condition)) (Fit s (lowered_stmts_box numbers body)) (expr_events condition)
-        (stmts_box_events body) (condition_stays s condition) (stmts_box_fits body s)
-    stmt_fits (stmt.For' pos parameter in_word reverse steps loop_word _ body end end_loop semicolon) s =
-        let n : ℕ = number_of numbers parameter in
+        (stay_both s two three (when_box_events first) (whens_events rest) (by_first s) (by_rest s));
+    statement_loop = λ pos _ body end end_loop semicolon by_body s. by_body s;
+    statement_while = λ pos condition loop_word _ body end end_loop semicolon by_body s. stay_both s (Uses (IsKept (IsObjectIn whole) s) (lowered_expr numbers condition)) (Fit s (lowered_stmts_box numbers body)) (expr_events condition)
+        (stmts_box_events body) (condition_stays s condition) (by_body s);
+    statement_for = λ pos parameter in_word reverse steps loop_word _ body end end_loop semicolon by_body s. let n : ℕ = number_of numbers parameter in
         let one : Type 0 = IsObjectIn whole n in
         let two : Type 0 = RangeFits (IsObjectIn whole) s (lowered_range numbers steps) in
         let three : Type 0 = Fit (n ∷ s) (lowered_stmts_box numbers body) in
         let xs : List Event = declares form.LoopParameter parameter ∷ (range_events steps ++ e.DeclarationsEnd ∷ []) in
         let ys : List Event = stmts_box_events body in
         stay_so s ((one × two) × three) (one × (two × three)) (e.RegionOpens ∷ (xs ++ (ys ++ e.RegionCloses ∷ []))) (λ p. (p.0.0, (p.0.1, p.1)))
-        (goes_regions numbers whole (one × two) three s (n ∷ s) (n ∷ s) xs ys (parameter_goes s parameter steps) (stmts_box_fits body (n ∷ s)))
-    stmt_fits (stmt.Block' pos _ body end semicolon) s =
-        let one : Type 0 = Fit s (lowered_stmts_box numbers body) in
+        (goes_regions numbers whole (one × two) three s (n ∷ s) (n ∷ s) xs ys (parameter_goes s parameter steps) (by_body (n ∷ s)));
+    statement_block = λ pos _ body end semicolon by_body s. let one : Type 0 = Fit s (lowered_stmts_box numbers body) in
         stay_so s one (Unit {0} × one) (e.RegionOpens ∷ (stmts_box_events body ++ e.RegionCloses ∷ [])) (λ p. (tt, p))
-        (goes_region numbers whole one s s (stmts_box_events body) (stmts_box_fits body s))
-    stmt_fits (stmt.DeclareBlock' pos items begin _ body end semicolon) s =
-        let a : Code = lowered_items numbers items in
+        (goes_region numbers whole one s s (stmts_box_events body) (by_body s));
+    statement_declare_block = λ pos items begin _ body end semicolon by_body s. let a : Code = lowered_items numbers items in
         let t : List ℕ = scope_after a s in
         goes_regions numbers whole (Fit s a) (Fit t (lowered_stmts_box numbers body)) s t t (flat_map item_events items) (stmts_box_events body)
-        (items_fit items s) (stmts_box_fits body t)
-    stmt_fits simple s = simple_fits simple s
-
-    stmts_box_fits : {n : _} (row : Row_of-Stmts n) (s : List ℕ) → Stays s (Fit s (lowered_stmts_box numbers row)) (stmts_box_events row)
-    stmts_box_fits end_of-Stmts s = goes_nothing numbers whole s []
-    stmts_box_fits (more_of-Stmts part rest) s = stmts_fit part s
-
-    elsifs_fit : {n : _} (row : Row_of-Elsif n) (s : List ℕ)
-        → Stays s (AreFitting (IsObjectIn whole) s (code_list (elsifs_row numbers row))) (elsifs_events row)
-    elsifs_fit end_of-Elsif s = goes_nothing numbers whole s []
-    elsifs_fit (more_of-Elsif part rest) s =
-        stay_both s (IsFitting (IsObjectIn whole) s (lowered_elsif numbers part)) (AreFitting (IsObjectIn whole) s (code_list (elsifs_row numbers rest)))
-        (elsif_events part) (elsifs_events rest) (elsif_fits part s) (elsifs_fit rest s)
-
-    elsif_fits : (tree : Elsif) (s : List ℕ) → Stays s (IsFitting (IsObjectIn whole) s (lowered_elsif numbers tree)) (elsif_events tree)
-    elsif_fits (branch.Branch' pos condition then_word _ body) s =
-        stay_both s (Uses (IsKept (IsObjectIn whole) s) (lowered_expr numbers condition)) (Fit s (lowered_stmts_box numbers body)) (expr_events condition)
-        (stmts_box_events body) (condition_stays s condition) (stmts_box_fits body s)
-
-    when_box_fits : {n : _} (row : Row_of-When n) (s : List ℕ) → Stays s (IsFitting (IsObjectIn whole) s (lowered_when_box numbers row)) (when_box_events row)
-    when_box_fits end_of-When s = goes_nothing numbers whole s []
-    when_box_fits (more_of-When part rest) s = when_fits part s
-
-    whens_fit : {n : _} (row : Row_of-When n) (s : List ℕ)
-        → Stays s (AreFitting (IsObjectIn whole) s (code_list (whens_row numbers row))) (whens_events row)
-    whens_fit end_of-When s = goes_nothing numbers whole s []
-    whens_fit (more_of-When part rest) s =
-        stay_both s (IsFitting (IsObjectIn whole) s (lowered_when numbers part)) (AreFitting (IsObjectIn whole) s (code_list (whens_row numbers rest)))
-        (when_events part) (whens_events rest) (when_fits part s) (whens_fit rest s)
-
-    when_fits : (tree : When) (s : List ℕ) → Stays s (IsFitting (IsObjectIn whole) s (lowered_when numbers tree)) (when_events tree)
-    when_fits (alternative.Alternative' pos first rest arrow _ body) s =
-        let asked : ℕ → Type 0 = IsKept (IsObjectIn whole) s in
+        (items_fit items s) (by_body t);
+    statements_box_end = λ s. goes_nothing numbers whole s [];
+    statements_box_more = λ _ part rest by_part s. by_part s;
+    branches_end = λ s. goes_nothing numbers whole s [];
+    branches_more = λ _ part rest by_part by_rest s. stay_both s (IsFitting (IsObjectIn whole) s (lowered_elsif numbers part)) (AreFitting (IsObjectIn whole) s (code_list (elsifs_row numbers rest)))
+        (elsif_events part) (elsifs_events rest) (by_part s) (by_rest s);
+    branch_branch = λ pos condition then_word _ body by_body s. stay_both s (Uses (IsKept (IsObjectIn whole) s) (lowered_expr numbers condition)) (Fit s (lowered_stmts_box numbers body)) (expr_events condition)
+        (stmts_box_events body) (condition_stays s condition) (by_body s);
+    alternative_box_end = λ s. goes_nothing numbers whole s [];
+    alternative_box_more = λ _ part rest by_part s. by_part s;
+    alternatives_end = λ s. goes_nothing numbers whole s [];
+    alternatives_more = λ _ part rest by_part by_rest s. stay_both s (IsFitting (IsObjectIn whole) s (lowered_when numbers part)) (AreFitting (IsObjectIn whole) s (code_list (whens_row numbers rest)))
+        (when_events part) (whens_events rest) (by_part s) (by_rest s);
+    alternative_alternative = λ pos first rest arrow _ body by_body s. let asked : ℕ → Type 0 = IsKept (IsObjectIn whole) s in
         let one : Type 0 = Fit s (lowered_stmts_box numbers body) in
         let xs : List Event = choice_events first in
         let ys : List Event = flat_map next_choice_events rest in
         stay_so s (Unit {0} × (Unit {0} × one)) one (xs ++ (ys ++ stmts_box_events body)) (λ p. p.1.1)
         (stay_both s (Unit {0}) (Unit {0} × one) xs (ys ++ stmts_box_events body) (goes_speaks numbers whole (Unit {0}) s [] xs (choice_speaks numbers asked first))
         (stay_both s (Unit {0}) one ys (stmts_box_events body) (goes_speaks numbers whole (Unit {0}) s [] ys (next_choices_speak numbers asked rest))
-        (stmts_box_fits body s)))
+        (by_body s)));
+  }
+
+  pub stmts_fit : (tree : Stmts) (s : List ℕ) → Stays s (Fit s (lowered_stmts numbers tree)) (stmts_events tree)
+  stmts_fit = on_statements stmts_fit_laws
