@@ -20,7 +20,7 @@ use Rattle.soundness.specs.TypedLaws.Needed.{Leads}
 use Rattle.machine.specs.Words.{access_offsets}
 use Rattle.machine.specs.Typed.{Sort, Pointer, sorts}
 use Rattle.machine.specs.Owners.{waiting_in}
-use Rattle.machine.specs.Memory.{Slot, Memory, Base, OfVariable, OfCell, cell, slots_at}
+use Rattle.machine.specs.Memory.{Base, OfVariable, OfCell, cell, slots_at}
 use Rattle.machine.specs.Evaluate.{Evaluated, place_of}
 use Rattle.machine.specs.Memory as machine_memory
 use Rattle.machine.specs.States as machine

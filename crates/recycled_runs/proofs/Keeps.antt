@@ -5,7 +5,7 @@ use Rattle.machine.specs.flow_paths.Objects.{Typing, object_at}
 use Rattle.machine.specs.Words.{Word, Cell, default}
 use Rattle.machine.specs.Memory.{Slot, Memory, Base, OfVariable, OfCell, fresh, cell, slots_at, no_slot}
 use Rattle.machine.specs.States.{Waiting}
-use Rattle.soundness.specs.OwnedWays.Ways.{Step, Loc, OfRoot, OfHand, Inside}
+use Rattle.soundness.specs.OwnedWays.Ways.{Loc, OfRoot, OfHand, Inside}
 use Rattle.soundness.specs.OwnedWays.Ways as ways
 use Rattle.soundness.specs.PartOffsets.Parts.{type_in, offset_in, has_part}
 use Rattle.soundness.specs.Seen.{content}

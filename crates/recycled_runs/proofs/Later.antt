@@ -6,7 +6,7 @@ use Rattle.kept_cells.specs.run_values.declared.value.Kind.{Kind}
 use Rattle.kept_cells.specs.run_values.declared.value.Kind.TheVariants as sort
 use Rattle.kept_cells.specs.Cells.{Cell}
 use Rattle.run_codes.specs.Codes.{Place}
-use Rattle.run_codes.specs.Flat.{Flat, Got, Given, Stops, Broken, touched, as_fresh, all_fresh, have_kinds, are_in, front_of_cell, most_offsets, words_in, Spot, InStack, InCell, spot, words_at}
+use Rattle.run_codes.specs.Flat.{Flat, Got, Given, Stops, Broken, touched, as_fresh, all_fresh, are_in, front_of_cell, words_in, Spot, InStack, InCell, spot, words_at}
 use Rattle.run_codes.specs.Flat as flat
 use Rattle.numbered_cells.specs.Follows.{IsThere}
 use Rattle.handled_runs.specs.Beside.{mapped}

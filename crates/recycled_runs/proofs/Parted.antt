@@ -1,6 +1,6 @@
 -- Equal results of one constructor hold equal parts, and those of two constructors aren't equal: one lemma each, so that
 -- no proof within a long section searches for it.
-use Rattle.std.proofs.Common.{◌≡◌, ℕ, Bool, true, false}
+use Rattle.std.proofs.Common.{◌≡◌, Bool, true, false}
 use Rattle.machine.specs.Evaluate as machine
 use Rattle.machine.specs.States as states
 use Rattle.run_codes.specs.Flat.{Flat, Got, Given, Made, Done}

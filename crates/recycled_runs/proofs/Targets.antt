@@ -35,9 +35,9 @@ use Rattle.machine.specs.States as machine
 use Rattle.recycled_runs.specs.ViewedFacts.NullPlaces.Agrees.{SameState}
 use Rattle.recycled_runs.proofs.ViewedFacts.NullPlaces.Memories.{cell_agree}
 use Rattle.kept_cells.specs.Cells.{Cell as StoredCell}
-use Rattle.run_codes.specs.Codes.{Place, Fill, Checked, Pointer as LookedAt, Does, Put, Store, Point, Actual, From, To, InFrame, InPackages, Behind, Number}
+use Rattle.run_codes.specs.Codes.{Place, Fill, Checked, Pointer as LookedAt, Does, Point, Actual, From, To, InFrame, InPackages, Behind, Number}
 use Rattle.run_codes.specs.Codes as codes
-use Rattle.run_codes.specs.Flat.{Flat, Got, Given, Stops, Broken, Made, Done, kinds, kind_of, is_word, touched, front_of_cell, are_in, words_in, and_then, Spot as FlatSpot, InStack, InCell, spot, words_at, all_fresh, filled}
+use Rattle.run_codes.specs.Flat.{Flat, Got, Given, Stops, Broken, Made, Done, kinds, kind_of, is_word, touched, front_of_cell, are_in, words_in, and_then, Spot as FlatSpot, InCell, spot, words_at, all_fresh, filled}
 use Rattle.run_codes.specs.Flat as flat
 use Rattle.run_codes.specs.Lowered.{Site, Placed, option_map, one_type, object_place, led, place, value}
 use Rattle.run_codes.specs.Programs.{Program, Around, going, on_going, on_next, use_for, is_scalar_shape, name_pos, put_at, stored_at, actual, actuals, with_first, assigned, called, release_at, with_takes}

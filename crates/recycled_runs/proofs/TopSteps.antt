@@ -17,7 +17,7 @@ use Rattle.machine.specs.Memory.{Memory, HeapCell, Place, Base, OfVariable, OfCe
 use Rattle.machine.specs.Evaluate.{ConstraintError, StorageError, DataError, EndError, ProgramError, Twice, Touched, Now, Evaluated, Done, Raises, Traps, Exception, Trap, AsValue, AsView, followed_by, value, viewed, evaluate, checked, place_of, text_of, image_of, cell_place, variable_place, is_true, decides}
 use Rattle.machine.specs.Calls.{Passed, checks_at, written_pos, out_checks, with_formal, with_formals, returns_of, all_passed}
 use Rattle.machine.specs.Calls as calls
-use Rattle.machine.specs.States.{Waiting, Loop, Frame, Leak, Return, State, Outcome, Goes, Ends, frame_words, stack_words, frame_at_start}
+use Rattle.machine.specs.States.{Waiting, Frame, Leak, Return, Outcome, Goes, Ends, frame_words, stack_words, frame_at_start}
 use Rattle.machine.specs.States as machine
 use Rattle.machine.specs.Step.{Turn, typing, here, start, waiting, raised, trapped, counted, evaluated, behind, goes, Stored, first_value, taken_by, type_named, leaking_goes, target_pos, copied_back, bounds, Bounds, number, choice, chosen, truth_waiting, with_loop, loop_of, turned_to, next_value, test, turn}
 use Rattle.numbered_cells.specs.Peaks.{peak_of}

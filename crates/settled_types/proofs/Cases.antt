@@ -1,5 +1,5 @@
 -- One form of code, and all others alike: a clause for each of the others would be checked once for each form.
-use Rattle.std.proofs.Common.{◌≡◌, ℕ, ◌+◌, Bool, true, false, List, [], refl, true≢false}
+use Rattle.std.proofs.Common.{◌≡◌, ℕ, Bool, true, false, List, [], refl, true≢false}
 use Rattle.machine.specs.spark_base.declared.position.Pos.{Pos}
 use Rattle.machine.specs.place_names.declared.act.Mode.{Mode}
 use Rattle.machine.specs.resolved_tree.declared.node.Mark.{Mark}

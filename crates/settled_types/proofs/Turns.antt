@@ -3,7 +3,7 @@ use Rattle.std.proofs.Common.{◌≡◌, inl, inr, ℕ, ◌+◌, ◌≤◌, Bool
 use Rattle.std.specs.Prelude.{slice_get}
 use Rattle.machine.specs.spark_base.declared.position.Pos.{Pos}
 use Rattle.machine.specs.spark_base.Lists.{Has}
-use Rattle.machine.specs.resolved_tree.Trees.{More, Code, Anonymous, Enumeration, Formals, Front}
+use Rattle.machine.specs.resolved_tree.Trees.{More, Code, Front}
 use Rattle.machine.specs.type_definitions.declared.table.Info.{Info}
 use Rattle.machine.specs.type_definitions.declared.table.InitialValue.{InitialValue}
 use Rattle.machine.specs.type_definitions.declared.table.Known.{Known}

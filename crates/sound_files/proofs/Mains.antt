@@ -5,7 +5,7 @@ use Rattle.std.specs.Prelude.{flat_map}
 use Rattle.std.specs.List.{position_or_len}
 use Rattle.machine.specs.spark_base.Lists.{Has}
 use Rattle.machine.specs.spark_base.declared.position.Pos.{Pos}
-use Rattle.machine.specs.resolved_tree.Trees.{Code, Front, Formals, SubBody, PackageBody, NoMore, More, code_items, Program}
+use Rattle.machine.specs.resolved_tree.Trees.{Code, Front, Formals, SubBody, PackageBody, More, code_items, Program}
 use Rattle.machine.specs.type_definitions.declared.table.FormalInfo.{FormalInfo}
 use Rattle.machine.specs.type_definitions.declared.table.Known.{Known}
 use Rattle.machine.specs.type_definitions.Types.{Table, is_nil}

@@ -22,7 +22,7 @@ use Rattle.soundness.proofs.Steps.{hand_top, hand_past, hand_below}
 use Rattle.soundness.proofs.Defaults.{NoCell, blank_word}
 use Rattle.soundness.proofs.Ends.{new_there, new_other, new_count}
 use Rattle.soundness.proofs.Constructors.{is_held_word}
-use Rattle.soundness.proofs.Parted.{loc_cells, root_cell, loc_hands}
+use Rattle.soundness.proofs.Parted.{loc_cells, loc_hands}
 
 module _ (s : Typing) (settled : IsSettled s.table) (m : Memory) (t want : ℕ) (ws : List machine.Word) (rest : List Waiting) (leaks : List Leak)
     (long : length ws ≡ words s.table t) (own : is_leaf s.table want [] ≡ true) where

@@ -14,13 +14,12 @@ use Rattle.machine.specs.typed_tree.Trees.{TypedTree, Name, More}
 use Rattle.machine.specs.flow_paths.Objects.{object_at, is_named_access, view_of, Passing, passing_by}
 use Rattle.machine.specs.flow_paths.Names.{Written, written, name_of}
 use Rattle.machine.specs.flow_paths.Acts.{naming, actual_act, actual_acts}
-use Rattle.machine.specs.Words.{access_offsets, fits_type}
 use Rattle.machine.specs.Words as machine
 use Rattle.machine.specs.Memory.{Memory, Place}
 use Rattle.machine.specs.Evaluate.{Here}
 use Rattle.machine.specs.Calls.{Passed, Value, From, To, passed}
 use Rattle.machine.specs.States.{Waiting, Leak}
-use Rattle.soundness.specs.OwnedWays.Ways.{Step, Component, OfVariable, Loc, OfRoot, Way, Object, Into, Empty, Named, Past, Under, IsRooted, Reaches, IsSame, AllowsAll, after, part, along, Allows, Gone}
+use Rattle.soundness.specs.OwnedWays.Ways.{Step, OfVariable, Loc, Way, Object, Empty, Named, Under, Reaches, after, part, Gone}
 use Rattle.soundness.specs.OwnedWays.Ways as ways
 use Rattle.soundness.specs.PartOffsets.Parts.{type_in, IsSettled}
 use Rattle.soundness.specs.Seen.{IsNear, Content, content, trunk, steps_in, seen, home}
@@ -41,7 +40,7 @@ use Rattle.viewed_steps.proofs.Outs.{Out, IsUnderOne}
 use Rattle.viewed_steps.proofs.LaidOut.{IsValueLaid, IsPlainAt, IsPlaceLaid, IsBackLaid, IsLaidOne, AreLaidOut, place_out, back_out, out_of, outs_of, IsOwnPut, IsHoused, own_out}
 use Rattle.viewed_steps.proofs.Called as called
 use Rattle.viewed_steps.proofs.Puts as puts
-use Rattle.viewed_steps.proofs.Called.{way_to, neither}
+use Rattle.viewed_steps.proofs.Called.{way_to}
 use Rattle.viewed_steps.proofs.Between.{OwnersStand}
 use Rattle.viewed_steps.proofs.Entered.{own_named, own_number, own_itself, own_plain}
 use Rattle.soundness.proofs.OwnedLoans.Moves.{IsPlace, expand_under}

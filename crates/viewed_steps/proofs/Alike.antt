@@ -6,9 +6,9 @@ use Rattle.std.proofs.lemmas.Bool.{false≢true}
 use Rattle.machine.specs.spark_base.Lists.{Has}
 use Rattle.machine.specs.type_definitions.Types.{words, full, is_scalar, components_of}
 use Rattle.machine.specs.flow_paths.Objects.{Typing, object_at}
-use Rattle.machine.specs.Words.{access_offsets, fits_type}
+use Rattle.machine.specs.Words.{access_offsets}
 use Rattle.machine.specs.Words as machine
-use Rattle.machine.specs.Memory.{Slot, Memory, Base, Place, fresh, no_slot, variable_slots, slots_at, slots_of, words_of, gone_at, with_slots, stored, moved_out, declared}
+use Rattle.machine.specs.Memory.{Slot, Memory, Place, fresh, no_slot, variable_slots, slots_at, slots_of, words_of, gone_at, with_slots, stored, moved_out, declared}
 use Rattle.machine.specs.Memory as memory
 use Rattle.machine.specs.Evaluate.{Now, Evaluated, Done, Raises, Traps, ConstraintError, followed_by}
 use Rattle.machine.specs.Calls.{Passed, Value, From, To, with_formal}

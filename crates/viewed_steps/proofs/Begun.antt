@@ -6,8 +6,6 @@ use Rattle.viewed_steps.proofs.LaidOut.{IsLaidOne, AreLaidOut}
 use Rattle.soundness.proofs.Points.{one_named, one_point}
 use Rattle.soundness.specs.Sound.{IsNamedSub, IsAtPoint}
 use Rattle.std.proofs.Common.{◌≡◌, refl, sym, ap, ◌∙◌, subst, inl, inr, ℕ, List, [], ◌∷◌, ◌++◌, Option, Some, Bool}
-use Rattle.std.proofs.lemmas.Bool.{false≢true}
-use Rattle.std.specs.Prelude.{is_some}
 use Rattle.machine.specs.spark_base.Lists.{Has}
 use Rattle.machine.specs.place_names.declared.act.Mode.TheVariants as mode
 use Rattle.machine.specs.typed_tree.Trees.{TypedTree, NoMore, More}

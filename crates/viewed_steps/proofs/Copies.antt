@@ -10,7 +10,7 @@ use Rattle.machine.specs.type_definitions.declared.table.Component.{Component as
 use Rattle.machine.specs.type_definitions.declared.table.Shape.{Shape}
 use Rattle.machine.specs.type_definitions.declared.table.Shape.TheVariants as shape
 use Rattle.machine.specs.type_definitions.Types.{shape_of, full, is_scalar, is_owning, words, owns_of, any_owns}
-use Rattle.machine.specs.typed_tree.Trees.{TypedTree, Number, Literal, Text, Name, Component as IntoComponent, Designated, Element, Call, EndOfFile, Parens, Image, Unary, Binary, Short, IsNull, Aggregate, Alike, New, NoMore, More}
+use Rattle.machine.specs.typed_tree.Trees.{TypedTree, Number, Literal, Name, Call, EndOfFile, Parens, Unary, Binary, Short, IsNull, Aggregate, Alike, New, NoMore, More}
 use Rattle.soundness.specs.OwnedWays.Ways.{Allows, AllowsAll, Loc, Object, OfVariable, Reaches, Step, Way, after}
 use Rattle.soundness.specs.OwnedLoans.Views.{Around, Viewed, Views, expand}
 use Rattle.machine.specs.Evaluate.{AsValue, ConstraintError, Done, Evaluated, Here, Now, Raises, Traps, checked, evaluate, followed_by, held_or_taken, part_type, parts_of, steps_of, variable_place, waited, walked}

@@ -6,7 +6,7 @@ use Rattle.machine.specs.place_names.declared.fact.Fact.{Fact}
 use Rattle.machine.specs.place_names.declared.fact.Fact.TheVariants.{Moved, Lent}
 use Rattle.machine.specs.place_names.declared.rule.Loan.{Loan}
 use Rattle.machine.specs.place_names.Names.{Name as PlaceName}
-use Rattle.soundness.specs.OwnedWays.Ways.{Step, Loc, OfCell, Way, Object, Lost, Into, All, Empty, Gone, Held, View, Owned, Covered, Below, Reaches, IsRooted, Under, Past, Named, part, along, name_of}
+use Rattle.soundness.specs.OwnedWays.Ways.{Step, Loc, OfCell, Way, Object, Lost, Into, All, Held, View, Owned, Covered, Below, Reaches, IsRooted, Under, Past, Named, part, along, name_of}
 use Rattle.soundness.specs.OwnedWays.Ways as ways
 use Rattle.soundness.proofs.OwnedWays.Locations.{below, reaches_along, past_under, under_along, under_itself}
 use Rattle.soundness.proofs.OwnedWays.Unique.{one_location, one_way}

@@ -1,6 +1,6 @@
 -- What is passed by a name that is copied back: nothing that was moved leads to it, before the acts of the
 -- call as at its own act, since what an earlier actual of mode `out` covers doesn't overlap it.
-use Rattle.std.proofs.Common.{◌≡◌, refl, sym, ◌∙◌, subst, ◌⊎◌, inl, inr, Bool, true, false, not, ◌||◌, ◌==◌, eqb-true, eq-eqb, List, [], ◌∷◌, ap}
+use Rattle.std.proofs.Common.{◌≡◌, refl, sym, ◌∙◌, subst, ◌⊎◌, Bool, true, false, not, ◌||◌, ◌==◌, eqb-true, eq-eqb, List, [], ◌∷◌, ap}
 use Rattle.std.specs.List.{list_any}
 use Rattle.std.proofs.lemmas.Bool.{false≢true}
 use Rattle.machine.specs.spark_base.Lists.{Has}

@@ -14,7 +14,7 @@ use Rattle.machine.specs.Memory.{Memory}
 use Rattle.machine.specs.Evaluate.{Now, Evaluated, Done, Raises, Traps, value}
 use Rattle.machine.specs.Evaluate as run
 use Rattle.machine.specs.States.{Waiting, Outcome, Goes}
-use Rattle.machine.specs.Step.{Turn, typing, here, waiting, behind, led, successor}
+use Rattle.machine.specs.Step.{Turn, typing, here, waiting, behind, successor}
 use Rattle.machine.specs.Step as steps
 use Rattle.machine.specs.Owners.{waiting_in}
 use Rattle.soundness.specs.OwnedWays.Ways.{Way, after, AllowsAll}

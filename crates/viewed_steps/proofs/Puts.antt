@@ -9,15 +9,15 @@ use Rattle.machine.specs.typed_tree.Trees as typed
 use Rattle.machine.specs.flow_paths.Objects.{object_at, is_anonymous, view_of, ByValue, Typing}
 use Rattle.machine.specs.flow_paths.Names.{waiting as waits_in, name_of, selectors}
 use Rattle.machine.specs.flow_paths.Acts.{acts_in, index_acts}
-use Rattle.machine.specs.Words.{access_offsets, fits_type, component_type}
+use Rattle.machine.specs.Words.{fits_type, component_type}
 use Rattle.machine.specs.Words as machine
-use Rattle.machine.specs.Memory.{Slot, Memory, Base, Place, fresh, no_slot, variable_slots, slots_at, slots_of, words_of, gone_at, with_slots, stored, moved_out, declared}
+use Rattle.machine.specs.Memory.{Memory, Base, Place}
 use Rattle.machine.specs.Memory as memory
-use Rattle.machine.specs.Evaluate.{Here, Now, AsValue, AsView, Evaluated, Done, Raises, Traps, ConstraintError, followed_by, evaluate, indexed, steps_of, walked, place_of, variable_place, component_place, element_place, checked, value, viewed, Use, held_or_taken}
+use Rattle.machine.specs.Evaluate.{Here, Now, AsValue, AsView, Evaluated, Done, Raises, Traps, ConstraintError, followed_by, steps_of, walked, place_of, variable_place, checked, value, viewed}
 use Rattle.machine.specs.Evaluate as run
 use Rattle.machine.specs.Calls.{Passed, Value, type_of, value_passed, passed}
 use Rattle.machine.specs.States.{Waiting, Leak}
-use Rattle.soundness.specs.OwnedWays.Ways.{Step, Root, Component, OfVariable, Loc, OfRoot, OfCell, Way, Object, Lost, Into, All, Empty, Named, Past, Under, IsRooted, Reaches, IsSame, AllowsAll, after, part, along, Allows}
+use Rattle.soundness.specs.OwnedWays.Ways.{Step, Root, Component, OfVariable, Loc, OfRoot, OfCell, Way, Object, Lost, Into, All, Named, Under, Reaches, AllowsAll, part, along}
 use Rattle.soundness.specs.OwnedWays.Ways as ways
 use Rattle.soundness.proofs.OwnedWays.Locations.{under_along, under_itself, reaches_along}
 use Rattle.soundness.proofs.OwnedWays.Unique.{one_location}

@@ -30,7 +30,7 @@ use Rattle.machine.specs.States.{Waiting, Outcome, Goes}
 use Rattle.machine.specs.Step.{Turn, typing, here, waiting, goes, behind}
 use Rattle.machine.specs.Step as steps
 use Rattle.machine.specs.Owners.{waiting_in}
-use Rattle.soundness.specs.OwnedWays.Ways.{OfVariable, OfHand, Loc, Way, Object, Reaches, IsRooted, Named, Allows, after, AllowsAll, number_of}
+use Rattle.soundness.specs.OwnedWays.Ways.{OfVariable, OfHand, Loc, Way, Object, Reaches, Named, Allows, after, AllowsAll, number_of}
 use Rattle.soundness.specs.OwnedWays.Ways as ways
 use Rattle.soundness.specs.PartOffsets.Parts.{IsSettled}
 use Rattle.soundness.specs.Seen.{IsNear, is_view_formal, content, trunk, seen, home}

@@ -1,7 +1,5 @@
 -- What a traversal function returns: null, or what goes on from what its first formal sees.
 use Rattle.std.proofs.Common.{false, ◌≡◌, refl, sym, ap, ◌∙◌, subst, ◌⊎◌, inl, inr, ℕ, Bool, true, List, [], ◌∷◌, ◌++◌, length, Option, Some, None, if◌then◌else◌}
-use Rattle.std.proofs.lemmas.Bool.{false≢true}
-use Rattle.std.specs.Prelude.{is_some}
 use Rattle.machine.specs.spark_base.declared.position.Pos.{Pos}
 use Rattle.machine.specs.place_names.declared.act.Act.{Act}
 use Rattle.machine.specs.place_names.declared.act.Act.TheVariants as act

@@ -8,7 +8,6 @@ use Rattle.machine.specs.flow_paths.Objects.{Typing, object_at}
 use Rattle.machine.specs.flow_paths.Names.{waiting as waits_in}
 use Rattle.machine.specs.flow_paths.Scopes.{taken}
 use Rattle.machine.specs.flow_paths.Acts.{acts_in}
-use Rattle.machine.specs.Words.{fits_type}
 use Rattle.machine.specs.Words as machine
 use Rattle.machine.specs.Memory.{Memory, Slot, Place, fresh, no_slot, variable_slots, words_of, stored, declared, undeclared}
 use Rattle.machine.specs.Evaluate.{Now, AsValue, Evaluated, Done, Raises, Traps, followed_by, value, variable_place, text_of}

@@ -1,7 +1,7 @@
 -- An operand of a short circuit, whose value waits, leads on.
 use Rattle.machine.specs.flow_paths.Views.{sub_acts}
 use Rattle.viewed_steps.specs.Traversals.{IsSourceIn}
-use Rattle.std.proofs.Common.{◌≡◌, refl, sym, ap, ◌∙◌, subst, ◌⊎◌, inl, inr, ℕ, suc, ◌<◌, Bool, true, false, ◌==◌, List, [], ◌∷◌, ◌++◌, drop, length, arith, Option, Some, None, if◌then◌else◌, take}
+use Rattle.std.proofs.Common.{◌≡◌, refl, sym, ap, ◌∙◌, subst, ◌⊎◌, inl, ℕ, suc, ◌<◌, Bool, true, false, ◌==◌, List, [], ◌∷◌, ◌++◌, drop, length, arith, Option, Some, None, if◌then◌else◌, take}
 use Rattle.machine.specs.spark_base.Lists.{Has}
 use Rattle.machine.specs.place_names.declared.act.Act.{Act}
 use Rattle.machine.specs.place_names.declared.fact.Fact.{Fact}

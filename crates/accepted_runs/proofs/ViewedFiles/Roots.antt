@@ -17,7 +17,7 @@ use Rattle.machine.specs.type_definitions.Gathered.{declared_number, declared_te
 use Rattle.machine.specs.typed_tree.Expressions.{Site, object_number, object_type}
 use Rattle.machine.specs.typed_tree.Statements.{scope_count}
 use Rattle.machine.specs.typed_tree.Programs.{DeclaredObject, Home, object_of, objects_in, formals_of, front_formals, local, in_package, package_text, kind_of, entry_kind, over_units}
-use Rattle.machine.specs.flow_paths.Objects.{Typing, object_at, view_of, is_anonymous}
+use Rattle.machine.specs.flow_paths.Objects.{Typing, object_at}
 use Rattle.machine.specs.flow_paths.Objects as flow
 use Rattle.settled_types.proofs.OrderLaws.ScopeLaws.Lists.{all_both}
 use Rattle.sound_files.specs.SeenFiles.Fits.{AllFit}

@@ -35,7 +35,7 @@ use Rattle.machine.specs.type_definitions.Expressions.{faults, inside, behind, w
 use Rattle.machine.specs.type_definitions.Statements.{source_faults, source_name, source_fits, formal_source, designates, is_source, keeps_constant, is_object_entry, is_formal, is_formal_kind, target_faults, assign_faults, assigned}
 use Rattle.machine.specs.type_definitions.Gathered.{indicated, is_anonymous_indication, declared_number, declared_pos, indicates_type, profile_from}
 use Rattle.machine.specs.type_definitions.Declarations.{indication_faults, is_single, first_pos, first_number, in_package, starting, has_one, initial_faults, object_faults, formal_faults, group_faults, formals_group, formals_faults, front_faults, result_faults, is_traversable}
-use Rattle.machine.specs.typed_tree.Trees.{TypedTree, TypedCode, Name, NoMore as nothing_more}
+use Rattle.machine.specs.typed_tree.Trees.{TypedTree, TypedCode, NoMore as nothing_more}
 use Rattle.machine.specs.typed_tree.Trees as typed
 use Rattle.machine.specs.typed_tree.declared.object.Object.{Object}
 use Rattle.machine.specs.typed_tree.Expressions.{Site, object_number, sub_number, typed_expression, typed_name, typed_steps, typed_step, typed_actuals, typed_imaged, typed_optional, typed_first, called_function, object_type, designating, element}

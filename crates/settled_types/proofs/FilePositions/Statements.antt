@@ -12,14 +12,7 @@ use Rattle.ada_tree.specs.declared.declaration.Component.{Component}
 use Rattle.ada_tree.specs.declared.declaration.Component.TheVariants as component
 use Rattle.ada_tree.specs.declared.declaration.Indication.{Indication}
 use Rattle.ada_tree.specs.declared.declaration.Indication.TheVariants as indication
-use Rattle.ada_tree.specs.declared.statement.Stmts.{Stmts, Row_of-Stmt, end_of-Stmt, more_of-Stmt}
-use Rattle.ada_tree.specs.declared.statement.Stmts.TheVariants as stmts
-use Rattle.ada_tree.specs.declared.statement.Stmt.{Stmt, Row_of-Stmts, end_of-Stmts, more_of-Stmts, Row_of-Elsif, end_of-Elsif, more_of-Elsif, Row_of-When, end_of-When, more_of-When}
-use Rattle.ada_tree.specs.declared.statement.Stmt.TheVariants as stmt
-use Rattle.ada_tree.specs.declared.statement.Elsif.{Elsif}
-use Rattle.ada_tree.specs.declared.statement.Elsif.TheVariants as branch
-use Rattle.ada_tree.specs.declared.statement.When.{When}
-use Rattle.ada_tree.specs.declared.statement.When.TheVariants as alternative
+use Rattle.ada_tree.specs.declared.statement.Stmts.{Stmts}
 use Rattle.ada_tree.specs.Spelling.{optional_word, next_dotted_spelling, next_arg_spelling, next_choice_spelling, indication_spelling, component_spelling, use_spelling, item_spelling, stmts_box, stmts_spelling, stmt_box, next_stmts_spelling, stmt_spelling, elsifs_spelling, elsif_spelling, when_box, next_whens_spelling, when_spelling}
 use Rattle.name_events.specs.declared.event.Event.TheVariants as e
 use Rattle.name_events.specs.declared.event.Clause.{Clause}

@@ -1,6 +1,6 @@
 -- What is known of literals and instances is what the code says.
 use Rattle.std.proofs.Common.{ℕ, zero, suc, ◌+◌, Bool, true, false, List, [], ◌∷◌, set, get_or, if◌then◌else◌}
-use Rattle.machine.specs.resolved_tree.Trees.{More, Code, Anonymous, Enumeration, Incomplete, Private, TypeDecl, Subtype, ConstrainedSubtype, Objects, Numbers, Instance, Formals, Front, SubDecl, SubBody, Package, PackageBody, If, Branch, Case, When, Loop, While, For, Block}
+use Rattle.machine.specs.resolved_tree.Trees.{More, Code, Incomplete, Private, TypeDecl, Subtype, ConstrainedSubtype, Objects, Numbers, Instance, Front, SubDecl, SubBody, Package, PackageBody, If, Branch, Case, When, Loop, While, For, Block}
 use Rattle.machine.specs.type_definitions.declared.table.Info.{Info}
 use Rattle.machine.specs.type_definitions.declared.table.InitialValue.{InitialValue}
 use Rattle.machine.specs.type_definitions.declared.table.Entry.{Entry}

@@ -3,7 +3,7 @@
 use Rattle.std.proofs.Common.{inl, inr, subst, ℕ, ◌<◌, ◌≤◌, true, List, [], ◌∷◌, ◌++◌, flat_map, arith}
 use Rattle.machine.specs.spark_base.Lists.{Has}
 use Rattle.spark_base.proofs.Lists.{Has-append_cases}
-use Rattle.machine.specs.resolved_tree.Trees.{More, Code, Anonymous, Incomplete, Private, TypeDecl, Subtype, ConstrainedSubtype, Objects, Formals, Front, SubDecl, SubBody, Package, PackageBody, If, Branch, Case, When, Loop, While, For, Block, code_items, Program}
+use Rattle.machine.specs.resolved_tree.Trees.{More, Code, Incomplete, Private, TypeDecl, Subtype, ConstrainedSubtype, Objects, Formals, Front, SubDecl, SubBody, Package, PackageBody, If, Branch, Case, When, Loop, While, For, Block, code_items, Program}
 use Rattle.machine.specs.type_definitions.Gathered.{declared_number}
 use Rattle.settled_types.proofs.Cases.{indicated_end, items_end, on_access, on_more}
 use Rattle.settled_types.specs.Orderly.{Past, past_after, within, NewFormals, NewGroup, NewFront, AllNew, Orderly, AllOrderly, IsOrderly, at_start}

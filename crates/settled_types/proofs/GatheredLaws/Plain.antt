@@ -1,6 +1,6 @@
 -- Where no type is an anonymous access type, declarations of objects and of subprograms make no rows.
 use Rattle.std.proofs.Common.{◌≡◌, refl, ◌∙◌}
-use Rattle.machine.specs.resolved_tree.Trees.{More, Code}
+use Rattle.machine.specs.resolved_tree.Trees.{Code}
 use Rattle.machine.specs.type_definitions.declared.table.InitialValue.{InitialValue}
 use Rattle.machine.specs.type_definitions.Types.{Table}
 use Rattle.machine.specs.type_definitions.Names.{Context}

@@ -6,7 +6,7 @@ use Rattle.machine.specs.spark_base.Lists.{Has}
 use Rattle.spark_base.proofs.Lists.{Has-append_left, Has-append_right}
 use Rattle.machine.specs.type_definitions.declared.table.InitialValue.{InitialValue}
 use Rattle.machine.specs.resolved_tree.declared.node.Mark.{Mark}
-use Rattle.machine.specs.resolved_tree.Trees.{More, Code, Anonymous, Formals, Front, code_items, Incomplete, Private, TypeDecl, Subtype, ConstrainedSubtype, Objects, Numbers, SubDecl, SubBody, Package, PackageBody, If, Branch, Case, When, Loop, While, For, Block}
+use Rattle.machine.specs.resolved_tree.Trees.{More, Code, Anonymous, code_items, Incomplete, Private, TypeDecl, Subtype, ConstrainedSubtype, Objects, Numbers, SubDecl, SubBody, Package, PackageBody, If, Branch, Case, When, Loop, While, For, Block}
 use Rattle.machine.specs.type_definitions.declared.table.Info.{Info}
 use Rattle.machine.specs.type_definitions.declared.table.Known.{Known}
 use Rattle.machine.specs.type_definitions.declared.table.Entry.{Entry}

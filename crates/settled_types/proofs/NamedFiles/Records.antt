@@ -12,14 +12,9 @@ use Rattle.ada_tree.specs.declared.declaration.Component.{Component}
 use Rattle.ada_tree.specs.declared.declaration.Component.TheVariants as component
 use Rattle.ada_tree.specs.declared.declaration.Item.{Item}
 use Rattle.ada_tree.specs.declared.declaration.Item.TheVariants as item
-use Rattle.ada_tree.specs.declared.statement.Stmts.{Stmts, Row_of-Stmt, end_of-Stmt, more_of-Stmt}
-use Rattle.ada_tree.specs.declared.statement.Stmts.TheVariants as stmts
-use Rattle.ada_tree.specs.declared.statement.Stmt.{Stmt, Row_of-Stmts, end_of-Stmts, more_of-Stmts, Row_of-Elsif, end_of-Elsif, more_of-Elsif, Row_of-When, end_of-When, more_of-When}
+use Rattle.ada_tree.specs.declared.statement.Stmts.{Stmts}
+use Rattle.ada_tree.specs.declared.statement.Stmt.{Stmt}
 use Rattle.ada_tree.specs.declared.statement.Stmt.TheVariants as stmt
-use Rattle.ada_tree.specs.declared.statement.Elsif.{Elsif}
-use Rattle.ada_tree.specs.declared.statement.Elsif.TheVariants as branch
-use Rattle.ada_tree.specs.declared.statement.When.{When}
-use Rattle.ada_tree.specs.declared.statement.When.TheVariants as alternative
 use Rattle.ada_tree.specs.declared.subprogram.Decl.{Decl}
 use Rattle.ada_tree.specs.declared.subprogram.Decl.TheVariants as decl
 use Rattle.ada_tree.specs.declared.unit.SourceUnit.{SourceUnit}

@@ -1,7 +1,7 @@
 -- What gathering makes of entries is of the same classes in both turns.
 use Rattle.std.proofs.Common.{◌≡◌, ℕ, zero, suc, ◌+◌, Bool, true, false, List, [], ◌∷◌, ◌++◌, set, get_or, refl, sym, ap, ◌∙◌, Option, Some, None, pos}
 use Rattle.machine.specs.resolved_tree.declared.node.Mark.{Mark}
-use Rattle.machine.specs.resolved_tree.Trees.{More, Code, Anonymous, Enumeration, Record, Components, Array, Access, Formals}
+use Rattle.machine.specs.resolved_tree.Trees.{More, Code, Enumeration, Record, Components, Array, Access}
 use Rattle.machine.specs.type_definitions.declared.table.Info.{Info}
 use Rattle.machine.specs.type_definitions.declared.table.InitialValue.{InitialValue}
 use Rattle.machine.specs.type_definitions.declared.table.Shape.TheVariants as shape

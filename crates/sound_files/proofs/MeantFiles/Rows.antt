@@ -2,7 +2,7 @@
 use Rattle.std.proofs.Common.{◌≡◌, inl, inr, ℕ, ◌+◌, Bool, true, false, [], ◌∷◌, ◌++◌, refl, sym, ap, ◌∙◌, Some, not, ◌||◌, true≢false, if◌then◌else◌}
 use Rattle.std.specs.Prelude.{slice_get}
 use Rattle.soundness.proofs.Lists.{Has-append_cases, Has-append_left, Has-append_right}
-use Rattle.machine.specs.resolved_tree.Trees.{More, Code, Anonymous, Enumeration, Incomplete, Private, TypeDecl, Subtype, ConstrainedSubtype, Objects, Numbers, Instance, Formals, Front, SubDecl, SubBody, Package, PackageBody, If, Branch, Case, When, Loop, While, For, Block}
+use Rattle.machine.specs.resolved_tree.Trees.{More, Code, Incomplete, Private, TypeDecl, Subtype, ConstrainedSubtype, Objects, Numbers, Instance, Formals, Front, SubDecl, SubBody, Package, PackageBody, If, Branch, Case, When, Loop, While, For, Block}
 use Rattle.name_events.specs.declared.declaration.DeclarationForm.{DeclarationForm}
 use Rattle.name_events.specs.declared.declaration.DeclarationForm.TheVariants as form
 use Rattle.name_events.specs.Declarations.{is_body_form}

@@ -33,7 +33,7 @@ use Rattle.ada_tree.specs.declared.expression.Suffix.{Suffix}
 use Rattle.ada_tree.specs.declared.expression.Suffix.TheVariants as suffix
 use Rattle.machine.specs.spark_base.declared.position.Pos.{Pos}
 use Rattle.machine.specs.resolved_tree.declared.operator.Operator.{Operator}
-use Rattle.machine.specs.resolved_tree.Trees.{Tree, Bounds, Constrained, Code, list_of}
+use Rattle.machine.specs.resolved_tree.Trees.{Tree, list_of}
 use Rattle.machine.specs.resolved_tree.Trees as t
 use Rattle.machine.specs.typed_tree.Expressions.{Site}
 use Rattle.machine.specs.flow_paths.Objects.{Typing}

@@ -11,14 +11,9 @@ use Rattle.ada_tree.specs.declared.identifier.NextIdentifier.{NextIdentifier}
 use Rattle.ada_tree.specs.declared.identifier.NextIdentifier.TheVariants as next_id
 use Rattle.ada_tree.specs.declared.declaration.Item.{Item}
 use Rattle.ada_tree.specs.declared.declaration.Item.TheVariants as item
-use Rattle.ada_tree.specs.declared.statement.Stmts.{Stmts, Row_of-Stmt, end_of-Stmt, more_of-Stmt}
-use Rattle.ada_tree.specs.declared.statement.Stmts.TheVariants as stmts
-use Rattle.ada_tree.specs.declared.statement.Stmt.{Stmt, Row_of-Stmts, end_of-Stmts, more_of-Stmts, Row_of-Elsif, end_of-Elsif, more_of-Elsif, Row_of-When, end_of-When, more_of-When}
+use Rattle.ada_tree.specs.declared.statement.Stmts.{Stmts}
+use Rattle.ada_tree.specs.declared.statement.Stmt.{Stmt}
 use Rattle.ada_tree.specs.declared.statement.Stmt.TheVariants as stmt
-use Rattle.ada_tree.specs.declared.statement.Elsif.{Elsif}
-use Rattle.ada_tree.specs.declared.statement.Elsif.TheVariants as branch
-use Rattle.ada_tree.specs.declared.statement.When.{When}
-use Rattle.ada_tree.specs.declared.statement.When.TheVariants as alternative
 use Rattle.ada_tree.specs.declared.subprogram.Subspec.{Subspec}
 use Rattle.ada_tree.specs.declared.subprogram.Subspec.TheVariants as subspec
 use Rattle.ada_tree.specs.declared.subprogram.Formals.{Formals}

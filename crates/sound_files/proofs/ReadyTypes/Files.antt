@@ -1,7 +1,6 @@
 -- The types of files without a fault of typing are settled, where positions are as in a text.
-use Rattle.std.proofs.Common.{◌≡◌, List, IsTrue, length, None}
+use Rattle.std.proofs.Common.{◌≡◌, List, IsTrue, None}
 use Rattle.ada_tree.specs.declared.unit.SourceUnit.{SourceUnit}
-use Rattle.name_events.specs.Denotes.{decl_infos}
 use Rattle.name_events.specs.Identified.{identified}
 use Rattle.machine.specs.type_definitions.Whole.{type_fault, known_of}
 use Rattle.typing_steps.specs.Programs.{program_of}

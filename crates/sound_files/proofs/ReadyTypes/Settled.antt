@@ -1,5 +1,5 @@
 -- The types of a program without a fault of typing are settled, and own by their definitions.
-use Rattle.std.proofs.Common.{◌≡◌, ℕ, sym, subst, IsTrue, None}
+use Rattle.std.proofs.Common.{◌≡◌, sym, subst, IsTrue, None}
 use Rattle.machine.specs.resolved_tree.Trees.{Program}
 use Rattle.machine.specs.type_definitions.Whole.{type_fault, known_of}
 use Rattle.machine.specs.typed_tree.Programs.{TypedProgram}

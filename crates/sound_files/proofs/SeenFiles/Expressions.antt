@@ -2,34 +2,10 @@
 use Rattle.std.proofs.Common.{◌≡◌, ℕ, suc, Bool, true, false, ◌&&◌, List, [], ◌∷◌, ◌++◌, drop, length, refl, sym, ap, subst, true≢false, zero}
 use Rattle.std.specs.List.{flat_map}
 use Rattle.machine.specs.spark_base.declared.position.Pos.{Pos}
-use Rattle.ada_tree.specs.declared.expression.Aggregate.{Aggregate, Row_of-Arg, end_of-Arg, more_of-Arg, Row_of-NextArg, end_of-NextArg, more_of-NextArg, Row_of-Expr, end_of-Expr, more_of-Expr}
-use Rattle.ada_tree.specs.declared.expression.Aggregate.TheVariants as aggregate
 use Rattle.ada_tree.specs.declared.expression.Arg.{Arg}
-use Rattle.ada_tree.specs.declared.expression.Arg.TheVariants as arg
 use Rattle.ada_tree.specs.declared.expression.NextArg.{NextArg}
-use Rattle.ada_tree.specs.declared.expression.NextArg.TheVariants as next_arg
-use Rattle.ada_tree.specs.declared.expression.Expr.{Expr, Row_of-Rel, end_of-Rel, more_of-Rel, Row_of-Operand, end_of-Operand, more_of-Operand, Row_of-ShortOperand, end_of-ShortOperand, more_of-ShortOperand}
-use Rattle.ada_tree.specs.declared.expression.Expr.TheVariants as expr
-use Rattle.ada_tree.specs.declared.expression.Operand.{Operand}
-use Rattle.ada_tree.specs.declared.expression.Operand.TheVariants as operand
-use Rattle.ada_tree.specs.declared.expression.ShortOperand.{ShortOperand}
-use Rattle.ada_tree.specs.declared.expression.ShortOperand.TheVariants as short_operand
-use Rattle.ada_tree.specs.declared.expression.Rel.{Rel, Row_of-Sum, end_of-Sum, more_of-Sum}
-use Rattle.ada_tree.specs.declared.expression.Rel.TheVariants as rel
-use Rattle.ada_tree.specs.declared.expression.Sum.{Sum, Row_of-NextTerm, end_of-NextTerm, more_of-NextTerm}
-use Rattle.ada_tree.specs.declared.expression.Sum.TheVariants as sum
-use Rattle.ada_tree.specs.declared.expression.NextTerm.{NextTerm}
-use Rattle.ada_tree.specs.declared.expression.NextTerm.TheVariants as next_term
-use Rattle.ada_tree.specs.declared.expression.Term.{Term, Row_of-NextFactor, end_of-NextFactor, more_of-NextFactor}
-use Rattle.ada_tree.specs.declared.expression.Term.TheVariants as term
-use Rattle.ada_tree.specs.declared.expression.NextFactor.{NextFactor}
-use Rattle.ada_tree.specs.declared.expression.NextFactor.TheVariants as next_factor
-use Rattle.ada_tree.specs.declared.expression.Factor.{Factor}
-use Rattle.ada_tree.specs.declared.expression.Factor.TheVariants as factor
-use Rattle.ada_tree.specs.declared.expression.Primary.{Primary, Row_of-Name, end_of-Name, more_of-Name, Row_of-Aggregate, end_of-Aggregate, more_of-Aggregate}
-use Rattle.ada_tree.specs.declared.expression.Primary.TheVariants as primary
+use Rattle.ada_tree.specs.declared.expression.Expr.{Expr}
 use Rattle.ada_tree.specs.declared.expression.Name.{Name, Row_of-Suffix, end_of-Suffix, more_of-Suffix}
-use Rattle.ada_tree.specs.declared.expression.Name.TheVariants as name
 use Rattle.ada_tree.specs.declared.expression.Suffix.{Suffix}
 use Rattle.ada_tree.specs.declared.expression.Suffix.TheVariants as suffix
 use Rattle.ada_tree.specs.declared.range.Range.{Range}

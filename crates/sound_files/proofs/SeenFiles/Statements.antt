@@ -16,13 +16,8 @@ use Rattle.ada_tree.specs.declared.declaration.Indication.TheVariants as indicat
 use Rattle.ada_tree.specs.declared.declaration.UseClause.{UseClause}
 use Rattle.ada_tree.specs.declared.identifier.Dotted.{Dotted}
 use Rattle.ada_tree.specs.declared.statement.Stmts.{Stmts, Row_of-Stmt, end_of-Stmt, more_of-Stmt}
-use Rattle.ada_tree.specs.declared.statement.Stmts.TheVariants as stmts
-use Rattle.ada_tree.specs.declared.statement.Stmt.{Stmt, Row_of-Stmts, end_of-Stmts, more_of-Stmts, Row_of-Elsif, end_of-Elsif, more_of-Elsif, Row_of-When, end_of-When, more_of-When}
+use Rattle.ada_tree.specs.declared.statement.Stmt.{Stmt}
 use Rattle.ada_tree.specs.declared.statement.Stmt.TheVariants as stmt
-use Rattle.ada_tree.specs.declared.statement.Elsif.{Elsif}
-use Rattle.ada_tree.specs.declared.statement.Elsif.TheVariants as branch
-use Rattle.ada_tree.specs.declared.statement.When.{When}
-use Rattle.ada_tree.specs.declared.statement.When.TheVariants as alternative
 use Rattle.ada_tree.specs.declared.expression.Expr.{Expr}
 use Rattle.ada_tree.specs.declared.expression.Arg.{Arg}
 use Rattle.ada_tree.specs.declared.expression.NextArg.{NextArg}

@@ -6,7 +6,7 @@ use Rattle.machine.specs.spark_base.Lists.{Has}
 use Rattle.soundness.proofs.Lists.{Has-append_cases}
 use Rattle.machine.specs.place_names.declared.act.Mode.{Mode}
 use Rattle.machine.specs.place_names.declared.act.Mode.TheVariants as mode
-use Rattle.machine.specs.resolved_tree.Trees.{Code, NoMore, More, Plain, Anonymous, Formals, Front, Program, code_items}
+use Rattle.machine.specs.resolved_tree.Trees.{Code, More, Plain, Anonymous, Formals, Front, Program, code_items}
 use Rattle.machine.specs.type_definitions.declared.judgement.Fault.{Fault}
 use Rattle.machine.specs.type_definitions.declared.judgement.View.{View}
 use Rattle.machine.specs.type_definitions.declared.judgement.View.TheVariants as view

@@ -2,7 +2,7 @@
 -- the other one, or it meets a loan of the other, or two loans meet.
 use Rattle.std.proofs.Common.{◌≡◌, refl, sym, ap, ◌∙◌, subst, ◌⊎◌, inl, inr, ℕ, Bool, true, false, List, zero, suc, ◌<◌, ◌≤◌, ◌+◌, nat_lt, ltb-true, ltb-false, arith, Option, Some, None, is_some}
 use Rattle.std.proofs.Math.Nat.{eq-or-lt_of_le}
-use Rattle.std.proofs.lemmas.Bool.{true≢false, false≢true}
+use Rattle.std.proofs.lemmas.Bool.{true≢false}
 use Rattle.machine.specs.place_names.declared.fact.Fact.{Fact}
 use Rattle.machine.specs.place_names.declared.rule.Loan.{Loan}
 use Rattle.machine.specs.place_names.declared.rule.Loan.TheVariants.{Borrowed}

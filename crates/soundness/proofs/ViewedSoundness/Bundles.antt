@@ -42,7 +42,7 @@ use Rattle.soundness.proofs.OwnedLoans.Clear.{overlaps_whole}
 use Rattle.soundness.proofs.OwnedLoans.Moves.{IsPlace, expand_along}
 use Rattle.soundness.specs.ViewedSoundness.Holds.{PartsAreNamed, is_view, is_bundle, IsOwners, Holds, GoesBy, Seeing}
 use Rattle.soundness.proofs.ViewedSoundness.Walks.{component_spot, element_spot, held_there}
-use Rattle.soundness.proofs.ViewedSoundness.Names.{Starts, lifted_deep, in_part_deep, part_owners, stands_owners, IsRaised, name_lifted, lifted_owners}
+use Rattle.soundness.proofs.ViewedSoundness.Names.{Starts, lifted_deep, in_part_deep, part_owners, stands_owners, IsRaised, name_lifted}
 use Rattle.soundness.proofs.ViewedSoundness.ViewKinds.{true_false, neither, either_true, sees_view}
 use Rattle.soundness.proofs.ViewedSoundness.Given.{lent_whole, seen_whole, part_whole}
 use Rattle.soundness.proofs.ViewedSoundness.Names as names

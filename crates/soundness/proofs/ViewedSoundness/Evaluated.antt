@@ -25,7 +25,7 @@ use Rattle.machine.specs.Evaluate.{Here, Now, AsValue, part_type, parts_of, Eval
 use Rattle.machine.specs.Evaluate as run
 use Rattle.machine.specs.Typed.{tree_count, field_count, is_record, is_array}
 use Rattle.machine.specs.States.{Waiting, Leak}
-use Rattle.soundness.specs.OwnedWays.Ways.{Step, OfVariable, OfHand, Loc, OfRoot, OfCell, Inside, Way, Object, Lost, Into, All, Word, Empty, Reaches, IsRooted, Under, Named, Spares, Allows, after, AllowsAll, Owned, IsSame, number_of}
+use Rattle.soundness.specs.OwnedWays.Ways.{Step, OfVariable, OfHand, Loc, Way, Object, Lost, Into, All, Word, Reaches, Under, Named, Spares, Allows, after, AllowsAll, Owned, number_of}
 use Rattle.soundness.specs.OwnedWays.Ways as ways
 use Rattle.soundness.specs.PartOffsets.Parts.{type_in, offset_in, has_part, owns_one, is_leaf, IsSettled}
 use Rattle.soundness.specs.Seen.{IsNear, in_hand, owner_word, content, trunk, word_in, seen, home}

@@ -10,7 +10,6 @@ use Rattle.machine.specs.typed_tree.Trees.{TypedTree, Name, Component as IntoCom
 use Rattle.machine.specs.flow_paths.Objects.{Typing}
 use Rattle.machine.specs.flow_paths.Names.{has_call, waiting}
 use Rattle.machine.specs.flow_paths.Acts.{acts_in}
-use Rattle.machine.specs.Words.{default, fits_type}
 use Rattle.machine.specs.Words as machine
 use Rattle.machine.specs.Memory.{Memory}
 use Rattle.machine.specs.Evaluate.{Here, Now, AsValue, part_type, parts_of, Evaluated, Done, Raises, Traps, followed_by, evaluate, initial, checked, allocated}

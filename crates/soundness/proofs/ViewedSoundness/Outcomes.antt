@@ -15,14 +15,14 @@ use Rattle.machine.specs.flow_paths.Scopes.{taken}
 use Rattle.machine.specs.flow_paths.Acts.{acts_in, stored_acts, assigned_to, source_acts, index_acts, reborrow, observe, target_pos as acts_target_pos}
 use Rattle.machine.specs.Words as machine
 use Rattle.machine.specs.Memory.{Memory, stored, given_up, undeclared}
-use Rattle.machine.specs.Evaluate.{Here, Now, AsValue, AsView, Evaluated, Done, Raises, Traps, followed_by, evaluate, checked, value, viewed, place_of, steps_of}
+use Rattle.machine.specs.Evaluate.{Here, Now, AsValue, Evaluated, Done, Raises, Traps, followed_by, evaluate, checked, value, viewed, place_of}
 use Rattle.machine.specs.Evaluate as run
 use Rattle.machine.specs.Calls.{checks_at}
 use Rattle.machine.specs.States.{Waiting, Leak, State, Outcome, Goes, Ends}
-use Rattle.machine.specs.Step.{Turn, counted, typing, here, start, waiting, Stored, first_value, taken_by, declare, assign, goes, behind, led, successor, leaking_goes, target_pos}
+use Rattle.machine.specs.Step.{Turn, counted, typing, here, start, waiting, Stored, taken_by, goes, behind, successor, leaking_goes, target_pos}
 use Rattle.machine.specs.Step as steps
 use Rattle.machine.specs.Owners.{waiting_in, WellOwned}
-use Rattle.soundness.specs.OwnedWays.Ways.{Step, Loc, Way, All, Reaches, IsRooted, Under, Named, Allows, after, AllowsAll, number_of, base_of, OfRoot}
+use Rattle.soundness.specs.OwnedWays.Ways.{Step, Loc, Way, Reaches, Under, Named, Allows, after, AllowsAll, number_of, base_of, OfRoot}
 use Rattle.soundness.specs.OwnedWays.Ways as ways
 use Rattle.soundness.specs.PartOffsets.Parts.{IsSettled}
 use Rattle.soundness.specs.Seen.{IsNear, content, trunk, seen, home, is_view_formal}

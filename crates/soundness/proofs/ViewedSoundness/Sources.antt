@@ -16,7 +16,7 @@ use Rattle.machine.specs.Memory.{Slot, Memory, Place, no_slot, slots_at, variabl
 use Rattle.machine.specs.Evaluate.{Here, Now, AsView, Evaluated, Done, Raises, Traps, followed_by, evaluate, steps_of, walked, variable_place, held_or_taken}
 use Rattle.machine.specs.Evaluate as run
 use Rattle.machine.specs.States.{Waiting, Leak}
-use Rattle.soundness.specs.OwnedWays.Ways.{Step, OfVariable, Loc, OfRoot, OfCell, Way, Object, Lost, Into, All, View, Reaches, IsRooted, Under, Named, Allows, AllowsAll, number_of}
+use Rattle.soundness.specs.OwnedWays.Ways.{Step, OfVariable, Loc, OfRoot, OfCell, Way, Object, All, View, Reaches, Under, Named, AllowsAll, number_of}
 use Rattle.soundness.specs.OwnedWays.Ways as ways
 use Rattle.soundness.proofs.OwnedWays.Locations.{under_itself}
 use Rattle.soundness.specs.PartOffsets.Parts.{IsSettled}

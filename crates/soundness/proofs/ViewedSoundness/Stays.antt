@@ -23,7 +23,7 @@ use Rattle.machine.specs.Memory.{Slot, Memory, Place, slots_of, words_of, moved_
 use Rattle.machine.specs.Evaluate.{Here, Now, Use, AsValue, AsView, Evaluated, Done, Raises, Traps, followed_by, evaluate, steps_of, variable_place, walked, held_or_taken, indexed, operated, operated_alone, given, decides, truth}
 use Rattle.machine.specs.Evaluate as run
 use Rattle.machine.specs.States.{Waiting, Leak}
-use Rattle.soundness.specs.OwnedWays.Ways.{OfVariable, OfHand, Loc, OfRoot, Way, Object, Into, All, Reaches, IsRooted, Past, Named, Allows, after, AllowsAll, sels_of}
+use Rattle.soundness.specs.OwnedWays.Ways.{OfVariable, OfHand, Loc, Way, Object, Into, All, Reaches, Named, Allows, after, AllowsAll, sels_of}
 use Rattle.soundness.specs.OwnedWays.Ways as ways
 use Rattle.soundness.specs.PartOffsets.Parts.{IsSettled}
 use Rattle.soundness.specs.Seen.{IsNear, content, trunk, seen, home}

@@ -19,7 +19,7 @@ use Rattle.machine.specs.Evaluate.{Here, Now, AsValue, Evaluated, Done, Raises, 
 use Rattle.machine.specs.Evaluate as run
 use Rattle.machine.specs.Step.{Stored}
 use Rattle.machine.specs.States.{Waiting, Leak}
-use Rattle.soundness.specs.OwnedWays.Ways.{Root, OfVariable, OfHand, Loc, OfRoot, Way, Object, Reaches, Named, Allows, after, AllowsAll, number_of}
+use Rattle.soundness.specs.OwnedWays.Ways.{OfVariable, OfHand, Loc, OfRoot, Way, Object, Reaches, Named, Allows, after, AllowsAll}
 use Rattle.soundness.specs.OwnedWays.Ways as ways
 use Rattle.soundness.specs.PartOffsets.Parts.{type_in, offset_in, has_part, IsSettled}
 use Rattle.soundness.specs.Seen.{IsNear, content, trunk, steps_in, seen, home, is_view_formal}

@@ -13,7 +13,6 @@ use Rattle.machine.specs.type_definitions.declared.table.Shape.{Shape}
 use Rattle.machine.specs.type_definitions.declared.table.Shape.TheVariants as shape
 use Rattle.machine.specs.type_definitions.Types.{Table, shape_of, words, full, view_of as view_of_shape}
 use Rattle.machine.specs.flow_paths.Objects.{Typing, object_at, is_anonymous, is_observer, view_of}
-use Rattle.machine.specs.Words.{component_type, element_type}
 use Rattle.machine.specs.Words as machine
 use Rattle.machine.specs.Memory.{Slot, Memory, Place, fresh, no_slot, slots_at, variable_slots, declared}
 use Rattle.machine.specs.Evaluate.{Here}

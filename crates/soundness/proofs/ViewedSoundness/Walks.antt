@@ -9,7 +9,7 @@ use Rattle.machine.specs.flow_paths.Objects.{Typing, designated, designated_of}
 use Rattle.machine.specs.Words.{no_component, component_type, words_before, element_of, count_of, element_type, element_count}
 use Rattle.machine.specs.Words as machine
 use Rattle.machine.specs.Memory.{Slot, Memory, Place, cell, no_slot, slots_at, slots_of}
-use Rattle.machine.specs.Evaluate.{Now, Evaluated, Done, Raises, Traps, followed_by, component_place, element_place, cell_place, designated_place, walked, Touched}
+use Rattle.machine.specs.Evaluate.{Now, Done, Traps, followed_by, component_place, element_place, cell_place, designated_place, walked, Touched}
 use Rattle.machine.specs.Evaluate as run
 use Rattle.machine.specs.States.{Waiting, Leak}
 use Rattle.soundness.specs.OwnedWays.Ways.{Component, Element, Loc, OfCell, Inside, Way, Object, Lost, Into, All, Gone, Held, Reaches, IsRooted, Past, Owned, Known}

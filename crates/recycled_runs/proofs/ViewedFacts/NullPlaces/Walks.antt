@@ -1,7 +1,6 @@
 -- Evaluations in memories that agree, and where names lead in them.
 use Rattle.std.proofs.Common.{◌≡◌, refl, subst, ℕ, Bool, true, false, List, [], ◌∷◌, if◌then◌else◌}
 use Rattle.machine.specs.flow_paths.Objects.{Typing}
-use Rattle.machine.specs.Words.{component_type, element_type}
 use Rattle.machine.specs.Words as machine
 use Rattle.machine.specs.Memory.{cell}
 use Rattle.machine.specs.Evaluate.{Now, Evaluated, Done, Raises, Traps, followed_by, cell_place, designated_place, Touched}

@@ -4,7 +4,7 @@ use Rattle.std.specs.List.{AllByRecursion}
 use Rattle.std.proofs.lemmas.Bool.{false≢true}
 use Rattle.machine.specs.spark_base.Lists.{Has}
 use Rattle.machine.specs.type_definitions.Types.{is_owning}
-use Rattle.machine.specs.typed_tree.Trees.{TypedTree, Name, Component, Designated, Element, Image, Parens, Unary, Binary, Short, IsNull, Aggregate, Alike, New, TypedCode}
+use Rattle.machine.specs.typed_tree.Trees.{TypedTree, TypedCode}
 use Rattle.machine.specs.typed_tree.Trees as typed
 use Rattle.machine.specs.typed_tree.Programs.{TypedSub}
 use Rattle.machine.specs.flow_paths.Instructions.{Declare}

@@ -7,10 +7,9 @@ use Rattle.machine.specs.spark_base.declared.position.Pos.{Pos}
 use Rattle.machine.specs.spark_base.Lists.{Has}
 use Rattle.spark_base.proofs.Lists.{Has-append_left, Has-append_right}
 use Rattle.machine.specs.typed_tree.declared.object.Object.{Object}
-use Rattle.machine.specs.typed_tree.Trees.{TypedTree, Name, Component, Designated, Element, Image, Parens, Unary, Binary, Short, IsNull, Aggregate, Alike, New, TypedCode, Declare, Assign, Skip, Output, Input, Release, If, Branch, Case, When, Loop, While, For, Exit, Return, Block}
-use Rattle.machine.specs.typed_tree.Trees as typed
+use Rattle.machine.specs.typed_tree.Trees.{TypedTree, TypedCode, Declare, Output, Input, Release}
 use Rattle.machine.specs.typed_tree.Programs.{TypedSub, text_io}
-use Rattle.machine.specs.flow_paths.Instructions.{Instruction, Call, Evaluate, Finish}
+use Rattle.machine.specs.flow_paths.Instructions.{Instruction, Call, Evaluate}
 use Rattle.machine.specs.flow_paths.Instructions as instruction
 use Rattle.machine.specs.flow_paths.Objects.{Typing}
 use Rattle.machine.specs.flow_paths.Names.{has_call}

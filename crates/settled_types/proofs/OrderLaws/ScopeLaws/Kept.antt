@@ -6,10 +6,9 @@ use Rattle.std.proofs.lemmas.Bool.{false≢true}
 use Rattle.machine.specs.spark_base.declared.position.Pos.{Pos}
 use Rattle.machine.specs.spark_base.Lists.{Has}
 use Rattle.spark_base.proofs.Lists.{Has-append_left, Has-append_right, Has-append_cases}
-use Rattle.machine.specs.typed_tree.Trees.{TypedTree, Name, Component, Designated, Element, Image, Parens, Unary, Binary, Short, IsNull, Aggregate, Alike, New, TypedCode, Declare, Assign, Skip, Output, Input, Release, If, Branch, Case, When, Loop, While, For, Exit, Return, Block}
-use Rattle.machine.specs.typed_tree.Trees as typed
+use Rattle.machine.specs.typed_tree.Trees.{TypedTree, TypedCode, Declare, Assign, Output, Input, Release}
 use Rattle.machine.specs.typed_tree.Programs.{TypedSub}
-use Rattle.machine.specs.flow_paths.Instructions.{Instruction, Finish, Evaluate}
+use Rattle.machine.specs.flow_paths.Instructions.{Instruction, Finish}
 use Rattle.machine.specs.flow_paths.Instructions as instruction
 use Rattle.machine.specs.flow_paths.Names.{has_call}
 use Rattle.machine.specs.flow_paths.Points.{Place, PointName, row_at, NamedPoint, point, entry}

@@ -29,7 +29,7 @@ use Rattle.settled_types.specs.OrderLaws.Placed.{is_placed, parameters}
 use Rattle.settled_types.proofs.OrderLaws.PackageValues.Declared.{Declares as IsDeclared, package_declares}
 use Rattle.laid_program.proofs.Successors.{all_numbers}
 use Rattle.run_codes.specs.Lowered.{Kept, Site, max_position}
-use Rattle.run_codes.specs.Programs.{kept, has_room, rooms_of, is_loop}
+use Rattle.run_codes.specs.Programs.{kept, has_room, is_loop}
 use Rattle.run_codes.specs.Programs as codes
 use Rattle.sound_files.specs.TypedFiles.LoweredLaws.Lowers.{literals_in, HasRoom, IsOwn, Declares, IsPlaced, IsDeclaration, site_of, ArePlaced}
 use Rattle.sound_files.specs.TypedFiles.LoweredFiles.Code.{plain_objects}

@@ -4,9 +4,9 @@ use Rattle.std.proofs.Common.{◌≡◌, refl, subst, ◌⊎◌, inl, inr, ℕ, 
 use Rattle.std.specs.Prelude.{reverse}
 use Rattle.machine.specs.spark_base.Lists.{Has}
 use Rattle.soundness.proofs.Lists.{Has-append_left, Has-append_right, Has-append_cases}
-use Rattle.machine.specs.typed_tree.Trees.{TypedTree, Name, Component, Designated, Element, Image, Parens, Unary, Binary, Short, IsNull, Aggregate, Alike, New, TypedCode, Declare, Assign, Skip, Output, Input, Release, If, Branch, Case, When, Loop, While, For, Exit, Return, Block}
+use Rattle.machine.specs.typed_tree.Trees.{TypedTree, Name, Component, Designated, Element, Image, Parens, Unary, Binary, Short, IsNull, Aggregate, Alike, New, TypedCode, Declare, Assign, Output, Input, Release, If, Branch, Case, When, Loop, While, For, Exit, Return, Block}
 use Rattle.machine.specs.typed_tree.Trees as typed
-use Rattle.machine.specs.flow_paths.Instructions.{Instruction, Evaluate}
+use Rattle.machine.specs.flow_paths.Instructions.{Instruction}
 use Rattle.machine.specs.flow_paths.Instructions as instruction
 use Rattle.machine.specs.flow_paths.Layout.{declared}
 use Rattle.machine.specs.flow_paths.Laid.{declared_within}

@@ -17,7 +17,7 @@ use Rattle.machine.specs.Typed.{Sort}
 use Rattle.soundness.specs.TypedLaws.Fine.{Agree, counts, lists, Has}
 use Rattle.soundness.proofs.TypedLaws.Agreeing.{Owns}
 use Rattle.soundness.specs.TypedLaws.TypedSteps.Steps.{Taken, IsPlaceOf, IsText, IsActual, ActualsTaken, IsCall}
-use Rattle.run_codes.specs.Codes.{Actual, Piece}
+use Rattle.run_codes.specs.Codes.{Actual}
 use Rattle.run_codes.specs.Codes as codes
 use Rattle.run_codes.specs.Lowered.{Site, Placed, Lowered, lowered, place, value, one_type, scalar_of, option_map}
 use Rattle.run_codes.specs.Programs.{taken_types, use_for, is_scalar_shape, viewed_value, actual_place, actual, with_first, actuals, append_all, image_piece, pieces}

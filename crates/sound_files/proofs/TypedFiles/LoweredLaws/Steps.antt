@@ -22,7 +22,7 @@ use Rattle.settled_types.specs.OrderLaws.ScopeLaws.Order.{named_in}
 use Rattle.soundness.specs.TypedLaws.Fine.{counts, lists, Has as HasType}
 use Rattle.soundness.proofs.TypedLaws.Agreeing.{Owns}
 use Rattle.soundness.specs.TypedLaws.TypedSteps.Steps.{Taken, FirstTaken, FirstHas, IsPlaceOf, FirstText, IsCall, Returned, IsTypedStep}
-use Rattle.run_codes.specs.Codes.{Does, Choice}
+use Rattle.run_codes.specs.Codes.{Does}
 use Rattle.run_codes.specs.Codes as codes
 use Rattle.run_codes.specs.Lowered.{Site, Lowered, Scalar, scalar_of, offset_of, lowered, value, option_map}
 use Rattle.run_codes.specs.Programs.{Around, taken_types, point_takes, is_loop, going, own_offset, own_loop, on_going, on_next, use_for, actuals, text_pieces, alternatives, truth_code, scalar_code, condition, chosen_code, tested, declared, assigned, called, chosen, started, next_turn, operand, gone_on, held_result, scope_end, does}

@@ -1,7 +1,7 @@
 -- A value of the type of its place is lowered.
 use Rattle.std.proofs.Common.{◌≡◌, refl, sym, ap, ◌∙◌, subst, inl, inr, ℕ, suc, ◌+◌, Bool, true, false, ◌&&◌, ◌||◌, ◌==◌, Option, Some, None, if◌then◌else◌}
 use Rattle.std.specs.Prelude.{option_and_then, slice_get}
-use Rattle.std.proofs.lemmas.Bool.{eq-eqb, true≢false}
+use Rattle.std.proofs.lemmas.Bool.{eq-eqb}
 use Rattle.machine.specs.type_definitions.declared.table.Shape.{Shape}
 use Rattle.machine.specs.type_definitions.declared.table.Shape.TheVariants as shape
 use Rattle.machine.specs.type_definitions.Types.{Table, shape_of, is_owning}

@@ -25,7 +25,7 @@ use Rattle.machine.specs.Evaluate.{Use, AsValue, AsView}
 use Rattle.machine.specs.Typed.{Sort, Whole, Position, Pointer, is_not, takes_whole, takes_truth, compares_words, designates, has_bounds, is_record, is_array, field_count}
 use Rattle.soundness.specs.TypedLaws.Fine.{Agree, counts, lists, Has, Pointed, Leads, Takes, is_plain, operator_type}
 use Rattle.soundness.proofs.TypedLaws.Agreeing.{Owns}
-use Rattle.run_codes.specs.Codes.{Place, Waiting}
+use Rattle.run_codes.specs.Codes.{Place}
 use Rattle.run_codes.specs.Lowered.{Kept, Site, Placed, Lowered, kept_words, offset_from, offset_of, package_offset, in_frame, in_packages, object_place, component_of, element_of, designated_of, sort_of, whole_code, is_taken, loaded, named, is_nth, waited, unary as lowered_unary, binary, short_circuit, null_test, max_position, lowered, led, option_map}
 use Rattle.run_codes.specs.Codes as codes
 use Rattle.run_codes.specs.Programs.{has_room, taken_types}

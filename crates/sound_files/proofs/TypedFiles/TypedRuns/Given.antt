@@ -2,7 +2,6 @@
 -- value is made of it, or it stands alone for a place of an anonymous access type.
 use Rattle.std.proofs.Common.{◌≡◌, refl, sym, ap, ◌∙◌, subst, ◌⊎◌, inl, inr, ℕ, zero, suc, Bool, true, false, ◌||◌, List, [], ◌∷◌, get_or, Option, Some, None}
 use Rattle.std.proofs.lemmas.Bool.{false≢true, true≢false}
-use Rattle.std.specs.Prelude.{is_some}
 use Rattle.machine.specs.spark_base.Lists.{Has as Holds}
 use Rattle.machine.specs.spark_base.declared.position.Pos.{Pos}
 use Rattle.machine.specs.place_names.declared.act.Mode.{Mode}

@@ -14,7 +14,7 @@ use Rattle.machine.specs.type_definitions.Whole.{TypeFault, outside, unit_faults
 use Rattle.machine.specs.typed_tree.declared.object.Object.{Object}
 use Rattle.machine.specs.typed_tree.Expressions.{Site}
 use Rattle.machine.specs.typed_tree.Statements.{scope_count, statements}
-use Rattle.machine.specs.typed_tree.Programs.{TypedSub, placed, over_units, subs_in, site_of, typed_program}
+use Rattle.machine.specs.typed_tree.Programs.{TypedSub, placed, over_units, subs_in, typed_program}
 use Rattle.machine.specs.typed_tree.Programs as programs
 use Rattle.machine.specs.flow_paths.Objects.{Typing, Signature}
 use Rattle.machine.specs.flow_paths.Points.{FlowPoint}

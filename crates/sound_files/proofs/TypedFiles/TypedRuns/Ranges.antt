@@ -20,7 +20,7 @@ use Rattle.machine.specs.type_definitions.Names.{Context, seen, reading_of}
 use Rattle.machine.specs.type_definitions.Expressions.{faults, inside, own_type, scalar_own, behind, way_of}
 use Rattle.machine.specs.type_definitions.Statements.{range_faults, range_of_faults, ranged, no_suffix, is_array, scalar_mark, type_or_integer}
 use Rattle.machine.specs.type_definitions.Gathered.{declared_number}
-use Rattle.machine.specs.typed_tree.Trees.{TypedTree, TypedCode}
+use Rattle.machine.specs.typed_tree.Trees.{TypedTree}
 use Rattle.machine.specs.typed_tree.Trees as typed
 use Rattle.machine.specs.typed_tree.declared.object.Object.{Object}
 use Rattle.machine.specs.typed_tree.Expressions.{Site, object_number}

@@ -5,10 +5,9 @@ use Rattle.std.specs.Prelude.{flat_map, drop, reverse, is_some}
 use Rattle.std.specs.List.{AllByRecursion, list_all}
 use Rattle.machine.specs.spark_base.Lists.{Has}
 use Rattle.machine.specs.spark_base.declared.position.Pos.{Pos}
-use Rattle.machine.specs.typed_tree.Trees.{TypedTree, Name, Component, Designated, Element, Image, Parens, Unary, Binary, Short, IsNull, Aggregate, Alike, New, TypedCode, Declare, Assign, Skip, Output, Input, Release, If, Branch, Case, When, Loop, While, For, Exit, Return, Block}
-use Rattle.machine.specs.typed_tree.Trees as typed
+use Rattle.machine.specs.typed_tree.Trees.{TypedTree, TypedCode, Declare, Assign}
 use Rattle.machine.specs.typed_tree.Programs.{TypedSub}
-use Rattle.machine.specs.flow_paths.Instructions.{Instruction, Finish, Evaluate}
+use Rattle.machine.specs.flow_paths.Instructions.{Instruction, Finish}
 use Rattle.machine.specs.flow_paths.Instructions as instruction
 use Rattle.machine.specs.flow_paths.Objects.{is_observer, has_scope_end}
 use Rattle.machine.specs.flow_paths.Names.{has_call}
