@@ -5,7 +5,7 @@ use Rattle.machine.specs.place_names.declared.act.Mode.{Mode}
 use Rattle.machine.specs.resolved_tree.declared.node.Mark.{Mark}
 use Rattle.machine.specs.resolved_tree.Trees.{Code, More, Front, Formals, Anonymous, Enumeration, code_items}
 use Rattle.machine.specs.type_definitions.Names.{Context}
-use Rattle.machine.specs.type_definitions.Gathered.{each, with_indication, with_formal_group, with_formals, with_result, with_front, with_literals, with_definition}
+use Rattle.machine.specs.type_definitions.Gathered.{each, with_indication, with_formal_group, with_formals, with_result, with_front, with_definition}
 use Rattle.settled_types.specs.GatheredLaws.Made.{indicated_numbers}
 
 -- ---- lists
@@ -25,10 +25,6 @@ each_end f _ x other = refl
 pub result_end : (d : ℕ) (c : Code) (x : Context) → is_more c ≡ false → with_result d c x ≡ x
 result_end d (More a rest) x other = absurd (true≢false other)
 result_end d _ x other = refl
-
-pub literals_end : (t n : ℕ) (c : Code) (x : Context) → is_more c ≡ false → with_literals t n c x ≡ x
-literals_end t n (More a rest) x other = absurd (true≢false other)
-literals_end t n _ x other = refl
 
 pub items_end : (c : Code) → is_more c ≡ false → code_items c ≡ []
 items_end (More a rest) other = absurd (true≢false other)

@@ -39,17 +39,11 @@ empty_held e = cc
 pub empty_gone : Empty ≡ Gone → ⊥
 empty_gone e = cc
 
-pub root_cell : {r : Root} {n : ℕ} → OfRoot r ≡ OfCell n → ⊥
-root_cell e = cc
-
 pub cell_root : {r : Root} {n : ℕ} → OfCell n ≡ OfRoot r → ⊥
 cell_root e = cc
 
 pub cell_inside : {l : Loc} {i : Step} {n : ℕ} → OfCell n ≡ Inside l i → ⊥
 cell_inside e = cc
-
-pub inside_cell : {l : Loc} {i : Step} {n : ℕ} → Inside l i ≡ OfCell n → ⊥
-inside_cell e = cc
 
 pub hand_variable : {h f x : ℕ} → OfRoot (OfHand h) ≡ OfRoot (OfVariable f x) → ⊥
 hand_variable e = cc

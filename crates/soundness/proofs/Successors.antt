@@ -13,7 +13,7 @@ use Rattle.machine.specs.typed_tree.Trees.{TypedTree}
 use Rattle.machine.specs.flow_paths.Instructions.{Instruction, Call, Finish}
 use Rattle.machine.specs.Step.{Turn, successor}
 use Rattle.soundness.specs.OwnedWays.Ways.{after}
-use Rattle.soundness.specs.Sound.{calls_nothing, calls_procedures, IsNoCall}
+use Rattle.soundness.specs.Sound.{IsNoCall}
 
 -- ---- texts without calls take nothing that waits
 
@@ -25,10 +25,6 @@ pub both_not : (a b : Bool) → not a && not b ≡ true → (a ≡ false) × (b 
 both_not true b e = absurd (false≢true e)
 both_not false true e = absurd (false≢true e)
 both_not false false e = (refl, refl)
-
-pub nothing_procedures : (i : Instruction) → calls_nothing i ≡ true → calls_procedures i ≡ true
-nothing_procedures (Call n actuals result) calls = absurd (false≢true calls)
-nothing_procedures i calls = calls
 
 pub finish_or : (i : Instruction) → (i ≡ Finish) ⊎ (i ≡ Finish → ⊥)
 finish_or Finish = inl refl

@@ -236,6 +236,3 @@ units_declare (u ∷ rest) p t has = elim (Has-append_cases (named_numbers u) (f
 ]
 
 -- ---- code without anonymous access types
-
-no_results : (x y : Code) (t : ℕ) → Has (body_results x ++ body_results y) t → (Has (body_results x) t → ⊥) → (Has (body_results y) t → ⊥) → ⊥
-no_results x y t has first second = elim (Has-append_cases (body_results x) (body_results y) t has) [ inl here ↦ first here | inr more ↦ second more ]

@@ -11,8 +11,8 @@ use Rattle.machine.specs.type_definitions.declared.table.Entry.TheVariants as en
 use Rattle.machine.specs.type_definitions.Types.{untyped}
 use Rattle.machine.specs.type_definitions.Entries.{entry_of, type_of_entry, type_of_mark, marked}
 use Rattle.machine.specs.type_definitions.Names.{Context}
-use Rattle.machine.specs.type_definitions.Gathered.{each, declared_number, own_info, indicated, with_entry, with_info, with_indication, with_literals, with_definition, with_object, object_info, with_number, number_info, plain_object, with_formal, with_formal_group, with_result, is_subprogram, component_group, component_groups, component_list, defined}
-use Rattle.settled_types.proofs.Cases.{definition_end, each_end, group_end, indication_end, on_access, on_enumeration, on_group, on_more, result_end}
+use Rattle.machine.specs.type_definitions.Gathered.{each, declared_number, own_info, indicated, with_entry, with_info, with_indication, with_literals, with_definition, with_object, object_info, with_number, number_info, plain_object, with_formal, is_subprogram, component_group, component_groups, component_list, defined}
+use Rattle.settled_types.proofs.Cases.{definition_end, each_end, indication_end, on_access, on_enumeration, on_more}
 use Rattle.settled_types.specs.SteadyTypes.Alike.{outline}
 
 -- ---- classes of entries
@@ -112,10 +112,6 @@ object_moves constant i v w d one two =
     (put n (entry.Object (object_info one constant (indicated one.known n i) v)) (entry.Object (object_info two constant (indicated two.known n i) w))
     (with_indication n i one) (with_indication n i two) refl)
 
-pub objects_move : (constant : Bool) (i : Code) (v w : InitialValue) (ids : Code) (one two : Context)
-    → Moves one two (each (with_object constant i v) ids one) (each (with_object constant i w) ids two)
-objects_move constant i v w ids one two = moves_each (with_object constant i v) (with_object constant i w) (object_moves constant i v w) ids one two
-
 pub numbers_move : (v w : InitialValue) (ids : Code) (one two : Context) → Moves one two (each (with_number v) ids one) (each (with_number w) ids two)
 numbers_move v w ids one two =
     moves_each (with_number v) (with_number w)
@@ -127,18 +123,6 @@ formal_moves of d one two =
     and_then one two (with_indication n of one) (with_indication n of two) (with_formal of d one) (with_formal of d two) (indication_moves n of one two)
     (put n (entry.Object (plain_object (indicated one.known n of) kind.Formal)) (entry.Object (plain_object (indicated two.known n of) kind.Formal))
     (with_indication n of one) (with_indication n of two) refl)
-
-pub group_moves : (group : Code) (one two : Context) → Moves one two (with_formal_group group one) (with_formal_group group two)
-group_moves = on_group (λ group. (one : Context) → (two : Context) → Moves one two (with_formal_group group one) (with_formal_group group two))
-    (λ names m of one two.
-    moves_each (with_formal of) (with_formal of) (formal_moves of) names one two)
-    (λ group other one two. rw (group_end group one other) rw (group_end group two other) (stay one two))
-
-pub result_moves : (d : ℕ) (result : Code) (one two : Context) → Moves one two (with_result d result one) (with_result d result two)
-result_moves d = on_more (λ result. (one : Context) → (two : Context) → Moves one two (with_result d result one) (with_result d result two))
-    (λ i rest _ one two.
-    indication_moves d i one two)
-    (λ result other one two. rw (result_end d result one other) rw (result_end d result two other) (stay one two))
 
 abbrev as_subprogram : ℕ → Bool
 as_subprogram zero = false

@@ -74,9 +74,6 @@ no_and : (b c : Bool) → c ≡ false → b && c ≡ false
 no_and true c e = e
 no_and false c e = refl
 
-pub plain_observer : (s : Typing) (x : ℕ) → is_anonymous (view_of s x) ≡ false → is_observer s x ≡ false
-plain_observer s x plain = no_and (is_variable (object_at s x).kind) (is_observing (view_of s x)) (neither _ (is_observing (view_of s x)) plain).1
-
 and_true : (a b : Bool) → a && b ≡ true → (a ≡ true) × (b ≡ true)
 and_true true b e = (refl, e)
 and_true false b e = absurd (false≢true e)
@@ -174,13 +171,6 @@ bundle_sees s sees seeing x bundle = by (sees x) refl
         absurd (true_false (is_exclusive s x)
         (seeing.lends x (ap (λ b. b || (is_in_formal s x && is_anonymous (view_of s x))) (formal (is_view_formal s x) (not (is_access (view_of s x))) bundle)) e)
         (open_bundle s x bundle))
-
-pub sees_observer : (s : Typing) (sees : ℕ → Bool) (seeing : Seeing s sees) (x : ℕ) → sees x ≡ false → is_observer s x ≡ false
-sees_observer s sees seeing x none = by_kind (is_observer s x) refl
-  where
-    by_kind : (b : Bool) → is_observer s x ≡ b → is_observer s x ≡ false
-    by_kind false e = e
-    by_kind true e = absurd (true_false (sees x) (seeing.observers x e) none)
 
 -- a formal that nothing is lent to sees
 pub given_sees : (s : Typing) (sees : ℕ → Bool) (seeing : Seeing s sees) (x : ℕ) → is_given s x ≡ true → is_exclusive s x ≡ false → sees x ≡ true

@@ -7,7 +7,7 @@ use Rattle.machine.specs.spark_base.declared.position.Pos.{Pos}
 use Rattle.machine.specs.spark_base.Lists.{Has}
 use Rattle.spark_base.proofs.Lists.{Has-append_left, Has-append_right}
 use Rattle.machine.specs.typed_tree.declared.object.Object.{Object}
-use Rattle.machine.specs.typed_tree.Trees.{TypedTree, TypedCode, Declare, Output, Input, Release}
+use Rattle.machine.specs.typed_tree.Trees.{TypedTree, TypedCode}
 use Rattle.machine.specs.typed_tree.Programs.{TypedSub, text_io}
 use Rattle.machine.specs.flow_paths.Instructions.{Instruction, Call, Evaluate}
 use Rattle.machine.specs.flow_paths.Instructions as instruction

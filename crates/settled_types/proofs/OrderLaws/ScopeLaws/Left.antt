@@ -4,7 +4,7 @@ use Rattle.std.specs.Prelude.{None, flat_map, drop, reverse, is_some}
 use Rattle.std.specs.List.{AllByRecursion}
 use Rattle.std.proofs.lemmas.List.Folds.{list_any-append}
 use Rattle.machine.specs.spark_base.declared.position.Pos.{Pos}
-use Rattle.machine.specs.typed_tree.Trees.{TypedTree, TypedCode, Declare, Assign, Output, Input, Release}
+use Rattle.machine.specs.typed_tree.Trees.{TypedTree, TypedCode}
 use Rattle.machine.specs.typed_tree.Programs.{TypedSub}
 use Rattle.machine.specs.flow_paths.Instructions.{Instruction, Finish}
 use Rattle.machine.specs.flow_paths.Instructions as instruction

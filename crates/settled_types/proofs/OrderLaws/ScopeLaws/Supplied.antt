@@ -6,7 +6,7 @@ use Rattle.std.specs.List.{AllByRecursion}
 use Rattle.std.proofs.lemmas.Bool.{false≢true, true≢false}
 use Rattle.machine.specs.spark_base.declared.position.Pos.{Pos}
 use Rattle.spark_base.proofs.Lists.{Has-append_left, Has-append_right, Has-append_cases, Has-filter}
-use Rattle.machine.specs.typed_tree.Trees.{TypedTree, TypedCode, Declare, Assign, Output, Input, Release}
+use Rattle.machine.specs.typed_tree.Trees.{TypedTree, TypedCode}
 use Rattle.machine.specs.typed_tree.Programs.{TypedSub}
 use Rattle.machine.specs.flow_paths.Instructions.{Instruction, Evaluate, Finish}
 use Rattle.machine.specs.flow_paths.Instructions as instruction

@@ -39,11 +39,6 @@ scalar_is (shape.Whole a b) e = (Whole, refl)
 scalar_is (shape.Listed k a b) e = (Position, refl)
 scalar_is z e = absurd (false≢true e)
 
-pub scalar_view : (z : Shape) (so : Sort) → IsScalarOf z so → is_scalar (view_of z) ≡ true
-scalar_view (shape.Whole a b) so is = refl
-scalar_view (shape.Listed k a b) so is = refl
-scalar_view z so is = absurd is
-
 pub scalar_sort : (z : Shape) (so : Sort) → IsScalarOf z so → sort_of z ≡ Some so
 scalar_sort (shape.Whole a b) so is = ap Some (sym is)
 scalar_sort (shape.Listed k a b) so is = ap Some (sym is)

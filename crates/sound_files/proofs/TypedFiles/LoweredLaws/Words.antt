@@ -51,9 +51,6 @@ at_most a b le = grind (arith, le)
 
 -- ---- operators
 
-unary_sort : UnaryOperator → Sort
-unary_sort op = if is_not op then Position else Whole
-
 unary_found : (op : UnaryOperator) (so : Sort) (l : Lowered) → so ≡ (if is_not op then Position else Whole) → l.sort ≡ so → Found (λ (r : Lowered). r.sort ≡ so) (lowered_unary op l)
 unary_found unary.Not so l is e = rw (e ∙ is) (sym is)
 unary_found op so l is e = rw (e ∙ is) (sym is)

@@ -5,7 +5,7 @@ use Rattle.std.specs.Prelude.{flat_map, drop, reverse, is_some}
 use Rattle.std.specs.List.{AllByRecursion, list_all}
 use Rattle.machine.specs.spark_base.Lists.{Has}
 use Rattle.machine.specs.spark_base.declared.position.Pos.{Pos}
-use Rattle.machine.specs.typed_tree.Trees.{TypedTree, TypedCode, Declare, Assign}
+use Rattle.machine.specs.typed_tree.Trees.{TypedTree, TypedCode}
 use Rattle.machine.specs.typed_tree.Programs.{TypedSub}
 use Rattle.machine.specs.flow_paths.Instructions.{Instruction, Finish}
 use Rattle.machine.specs.flow_paths.Instructions as instruction
